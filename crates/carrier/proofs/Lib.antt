@@ -1,0 +1,2 @@
+mod Stretches
+mod Turns

@@ -1,0 +1,3 @@
+pub mod Pulls
+pub mod Fills
+pub mod Alone
