@@ -1,2 +1,3 @@
 mod Stretches
 mod Turns
+pub mod Fillings
