@@ -73,10 +73,10 @@ pub fn fixed_length(kind: Kind) -> u16
 fn lawful_length(kind: Kind, length: u16) -> bool
     ensures { λ r. ⌜ r ≡ lawful kind length ⌝ }
 {
+    let least = fixed_length(kind);
     match kind {
-        Kind::StreamChange | Kind::EndOfStream => length == 4,
-        Kind::Data | Kind::Header | Kind::Metadata | Kind::PacketPair => length
-            >= fixed_length(kind),
+        Kind::StreamChange | Kind::EndOfStream => length == least,
+        Kind::Data | Kind::Header | Kind::Metadata | Kind::PacketPair => length >= least,
     }
 }
 

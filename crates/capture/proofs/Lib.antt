@@ -1,0 +1,6 @@
+mod Fours
+mod Sums
+mod Coming
+mod Accepted
+mod Recording
+mod Told

@@ -1,0 +1,4 @@
+// What a run of Steps comes to.
+pub fn nothing() -> u8 {
+    0
+}
