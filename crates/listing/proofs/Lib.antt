@@ -1,2 +1,3 @@
 mod Samples
 mod Turns
+mod Examples

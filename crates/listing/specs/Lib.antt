@@ -1,3 +1,4 @@
 pub mod Lines
 pub mod Samples
 pub mod Listings
+pub mod Examples

@@ -9,6 +9,8 @@ ghost use Rattle.std.specs.Results.{isOk};
 ghost use Rattle.std.specs.Vec.{made};
 ghost use Rattle.listing.specs.Lines.{line-of};
 ghost use Rattle.listing.specs.Listings.{lines-from, lines, listed};
+ghost use Rattle.listing.specs.Examples.{Example-listings};
+ghost use Rattle.runs.specs.Laws.{Ends-clean-exactly-for-bodies, Faults-exactly-where-no-body-goes-on, Limit-exactly-at-the-256th-header};
 use super::lines::line;
 use super::lines::refused_line;
 use capture::Capture;
@@ -78,8 +80,8 @@ pub fn list_body<C: Carrier + Drop>(
 }
 
 // The lines of a captured connection, read as a Play body; or the line of its refusal.
-pub fn list_capture(heap: Global, input: &[u8]) -> Result<String, AllocError>
-    ensures text { λ r. ⌜ made r (λ t. string-bytes t ≡ listed (now (input .entry))) ⌝ }
+fn capture_text(heap: Global, input: &[u8]) -> Result<String, AllocError>
+    ensures { λ r. ⌜ made r (λ t. string-bytes t ≡ listed (now (input .entry))) ⌝ }
 {
     if input.len() > MOST_INPUT {
         return refused_line(heap, CaptureRefusal::CutShort);
@@ -89,4 +91,15 @@ pub fn list_capture(heap: Global, input: &[u8]) -> Result<String, AllocError>
         Err(refusal) => refused_line(heap, refusal),
         Ok(()) => list_body(heap, capture, BodyKind::Play, None),
     }
+}
+
+// The listing of a captured connection, and what the answers in it are in terms of the grammar of bodies.
+pub fn list_capture(heap: Global, input: &[u8]) -> Result<String, AllocError>
+    ensures text { λ r. ⌜ made r (λ t. string-bytes t ≡ listed (now (input .entry))) ⌝ }
+    ensures ends_clean_exactly_for_bodies { λ _. ⌜ Ends-clean-exactly-for-bodies ⌝ }
+    ensures faults_exactly_where_no_body_goes_on { λ _. ⌜ Faults-exactly-where-no-body-goes-on ⌝ }
+    ensures limit_exactly_at_the_256th_header { λ _. ⌜ Limit-exactly-at-the-256th-header ⌝ }
+    ensures example_listings { λ _. ⌜ Example-listings ⌝ }
+{
+    capture_text(heap, input)
 }

@@ -8,7 +8,6 @@ use Rattle.packet.specs.declared.grammar.Event.{Event}
 use Rattle.receiver.specs.declared.answers.Answer.{Answer}
 use Rattle.receiver.specs.declared.answers.Answer.the-variants as answer
 use Rattle.receiver.specs.declared.standings.Standing.{Standing}
-use Rattle.receiver.specs.declared.standings.Settled.{Settled}
 use Rattle.receiver.specs.Draws.{used}
 use Rattle.receiver.specs.Steps.{steps, opened}
 use Rattle.std.specs.declared.option.Option.{Option}

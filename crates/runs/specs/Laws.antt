@@ -35,7 +35,13 @@ Ends-clean-exactly-for-bodies =
 abbrev pub Faults-behind : BodyKind → Option ℕ → List Packet → List ℕ → StepFault → List Answer → Type 0
 Faults-behind b before ps qs f told = told ≡ map answer.Event (events b before ps) ++ (answer.Failed (failure f (stopped (length qs)) None) ∷ [])
 
--- Where a body may begin with the packets ps, of bytes qs and at most 255 headers, and a packet p comes whose PacketSize is right: a fault 26, 25 or 27 is answered there exactly where no body goes on so, and 30 exactly where p completes the 256th header.
+-- the same with a fault 26, 25 or 27: a packet that is not allowed there, by its kind, its marks or its Incarnation
+abbrev pub Faults-out-of-place : BodyKind → Option ℕ → List Packet → List ℕ → List Answer → Type 0
+Faults-out-of-place b before ps qs told =
+    Faults-behind b before ps qs fault.NotAllowedHere told
+    ⊎ (Faults-behind b before ps qs fault.HeaderMarks told ⊎ Faults-behind b before ps qs fault.Incarnation told)
+
+-- Where a body may begin with the packets ps, of bytes qs and at most 255 headers, and the packet p comes next, its PacketSize right: it faults as out of place exactly where no body goes on with it.
 abbrev pub Faults-exactly-where-no-body-goes-on : Type 0
 Faults-exactly-where-no-body-goes-on =
     (b : BodyKind) (before : Option ℕ) (ps : List Packet) (qs : List ℕ) (p : Packet) (payload ws rest : List ℕ) (e : Ending)
@@ -43,11 +49,10 @@ Faults-exactly-where-no-body-goes-on =
     → Begins-a-body b before qs
     → headers ps ≤ entry-limit
     → Laid p payload ws
-    → (Faults-behind b before ps qs fault.NotAllowedHere (answers b before (qs ++ (ws ++ rest)) e)
-    ⊎ (Faults-behind b before ps qs fault.HeaderMarks (answers b before (qs ++ (ws ++ rest)) e)
-    ⊎ Faults-behind b before ps qs fault.Incarnation (answers b before (qs ++ (ws ++ rest)) e)))
+    → Faults-out-of-place b before ps qs (answers b before (qs ++ (ws ++ rest)) e)
     ↔ (Begins-a-body b before (qs ++ ws) → ⊥)
 
+-- Under the same conditions the limit is met exactly where p completes the 256th header of what a body may begin with.
 abbrev pub Limit-exactly-at-the-256th-header : Type 0
 Limit-exactly-at-the-256th-header =
     (b : BodyKind) (before : Option ℕ) (ps : List Packet) (qs : List ℕ) (p : Packet) (payload ws rest : List ℕ) (e : Ending)
