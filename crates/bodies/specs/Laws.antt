@@ -2,7 +2,7 @@
 use mathlib.Core.Path.{_≡_}
 use mathlib.Core.Bool.{true}
 use mathlib.Core.Logic.{_↔_, _⊎_}
-use mathlib.Core.List.{List, [], _∷_, _++_}
+use mathlib.Core.List.{List, _∷_, _++_}
 use Prim.Native.Nat.{ℕ, _≤_}
 use Rattle.packet.specs.declared.wire.Packet.{Packet}
 use Rattle.packet.specs.declared.grammar.BodyKind.{BodyKind}
@@ -16,7 +16,7 @@ use Rattle.std.specs.declared.option.Option.{Option}
 use Rattle.std.specs.declared.result.Result.{Result}
 use Rattle.std.specs.declared.result.Result.the-variants.{Err}
 use Rattle.bodies.specs.Grammar.{Body}
-use Rattle.bodies.specs.Layout.{Laid}
+use Rattle.bodies.specs.Layout.{Laid-out, All-laid}
 use Rattle.bodies.specs.Told.{Accepted, Reached, completes, headers, events}
 
 -- The lists of packets that are accepted are the bodies with at most 255 headers, each told as its events.
@@ -36,18 +36,13 @@ Faults-where-no-body-goes-on =
     → Reached (starts b before) 0 0 ps at n place
     → (Out-of-place (judged p at n) ↔ ((qs : List Packet) × Body b before (ps ++ (p ∷ qs)) → ⊥))
 
--- each packet has bytes
-abbrev pub All-laid : List Packet → Type 0
-All-laid [] = Unit {0}
-All-laid (p ∷ ps) = ((payload bs : List ℕ) × Laid p payload bs) × All-laid ps
-
--- Any other packet goes on to a body, by packets that can be laid out in bytes.
+-- Any other packet goes on to a body. Where it and the packets before it have bytes, it does so by packets that have bytes.
 abbrev pub Goes-on : Type 0
 Goes-on =
     (b : BodyKind) (before : Option ℕ) (ps : List Packet) (at : Position) (n place : ℕ) (p : Packet)
     → Reached (starts b before) 0 0 ps at n place
     → (Out-of-place (judged p at n) → ⊥)
-    → (qs : List Packet) × Body b before (ps ++ (p ∷ qs)) × All-laid qs
+    → (qs : List Packet) × Body b before (ps ++ (p ∷ qs)) × (All-laid ps → Laid-out p → All-laid qs)
 
 -- The limit is met by the packet that would complete the 256th header of what could go on to a body, and by no other.
 abbrev pub Limit-at-the-256th-header : Type 0

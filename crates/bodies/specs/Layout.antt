@@ -1,12 +1,17 @@
 -- The bytes of a packet, field by field, as MS-WMSP lays them out.
 use mathlib.Core.Path.{_≡_}
 use mathlib.Core.List.{List, [], _∷_}
-use Prim.Native.Nat.{ℕ, _+_}
+use Prim.Native.Nat.{ℕ, _+_, _<_}
 use lib.ListN.{length}
 use Rattle.packet.specs.declared.wire.Kind.{Kind}
 use Rattle.packet.specs.declared.wire.Kind.the-variants as kind
 use Rattle.packet.specs.declared.wire.Packet.{Packet}
 use Rattle.packet.specs.Wire.{mark, le2, le4, unframed}
+use Rattle.std.specs.shelf.Lists.{All}
+
+-- each number is a byte
+abbrev pub Byte-string : List ℕ → Type 0
+Byte-string bs = All (λ b. b < 256) bs
 
 -- the letter behind the mark
 abbrev pub letter : Kind → ℕ
@@ -57,3 +62,10 @@ Laid-as kind.PacketPair = Bare
 -- `Laid p payload bs`: the bytes bs are the packet p with this payload
 abbrev pub Laid : Packet → List ℕ → List ℕ → Type 0
 Laid p payload bs = Laid-as (p .kind) p payload bs
+
+-- the packet has bytes, and each of the packets has
+abbrev pub Laid-out : Packet → Type 0
+Laid-out p = (payload bs : List ℕ) × Laid p payload bs × Byte-string bs
+
+abbrev pub All-laid : List Packet → Type 0
+All-laid ps = All Laid-out ps

@@ -6,6 +6,7 @@ use mathlib.Core.List.{List, [], _∷_, _++_, map, append-assoc, append-nil}
 use Prim.Native.Nat.{ℕ, suc, _+_, _-_, _≤_}
 use native.Mathlib.Omega.{arith}
 use lib.ListN.{length, drop, length-append}
+use Rattle.std.proofs.shelf.Elements.{all-append}
 use Rattle.std.proofs.shelf.Lists.{append-cancel-left}
 use Rattle.std.proofs.shelf.Tests.{cases-eq}
 use Rattle.carrier.specs.declared.Ending.{Ending}
@@ -24,10 +25,10 @@ use Rattle.receiver.specs.declared.answers.Failure.{Failure}
 use Rattle.receiver.specs.declared.drawing.Drawn.the-variants as drawn
 use Rattle.receiver.specs.Draws.{draws, used}
 use Rattle.receiver.specs.Steps.{failure}
-use Rattle.bodies.specs.Layout.{Laid}
+use Rattle.bodies.specs.Layout.{Byte-string, Laid, All-laid}
 use Rattle.bodies.specs.Grammar.{Body}
 use Rattle.bodies.specs.Told.{headers, completes, events, Reached}
-use Rattle.bodies.specs.Laws.{Out-of-place, All-laid}
+use Rattle.bodies.specs.Laws.{Out-of-place}
 use Rattle.bodies.proofs.Leading.{Goes, body-ends}
 use Rattle.bodies.proofs.Ruling.{Ruled, ruled}
 use Rattle.bodies.proofs.Judging.{Gives, gives, allowed, completed-below, completed-at, out-is-not-ok, out-is-not-limit}
@@ -68,12 +69,22 @@ first-packets (p ∷ ps) qs r (p′ ∷ all) (payload, ws, rest, laid, is, bytes
     let (more, split) = first-packets ps rest r all bytes (rw left at bytes′) in
     (more, ap₂ _∷_ same split)
 
--- packets that can be laid out have bytes
-all-bytes : (ps : List Packet) → All-laid ps → (qs : List ℕ) × Bytes ps qs
-all-bytes [] laid = ([], refl)
-all-bytes (p ∷ ps) ((payload, ws, laid), more) =
-    let (rest, bytes) = all-bytes ps more in
-    (ws ++ rest, (payload, ws, rest, laid, refl, bytes))
+-- packets that each have bytes have them one behind the other, and the other way round
+all-bytes : (ps : List Packet) → All-laid ps → (qs : List ℕ) × Byte-string qs × Bytes ps qs
+all-bytes [] none = ([], tt, refl)
+all-bytes (p ∷ ps) ((payload, ws, laid, small), more) =
+    let (rest, all-small, bytes) = all-bytes ps more in
+    (ws ++ rest, all-append _ ws rest small all-small, (payload, ws, rest, laid, refl, bytes))
+
+both-small : (xs ys : List ℕ) → Byte-string (xs ++ ys) → Byte-string xs × Byte-string ys
+both-small [] ys small = (tt, small)
+both-small (x ∷ xs) ys (low, more) = let (left, right) = both-small xs ys more in ((low, left), right)
+
+bytes-laid : (ps : List Packet) (qs : List ℕ) → Bytes ps qs → Byte-string qs → All-laid ps
+bytes-laid [] qs none small = tt
+bytes-laid (p ∷ ps) qs (payload, ws, rest, laid, is, bytes) small =
+    let (first, behind) = both-small ws rest (rw is at small) in
+    ((payload, ws, laid, first), bytes-laid ps rest bytes behind)
 
 -- the first packets of what leads to an end are allowed one after another, where they have few headers
 begins-reached : (from : Position) (entry place : ℕ) (ps more : List Packet) (end : Position)
@@ -103,17 +114,17 @@ out-or-not p here n = go (ruled p here)
 module _ (b : BodyKind) (before : Option ℕ) (ps : List Packet) (qs : List ℕ) (p : Packet) (payload ws : List ℕ) (bytes : Bytes ps qs) (laid : Laid p payload ws) where
   -- a body that goes on with the packet, in packets and in bytes
   in-packets : Begins-a-body b before (qs ++ ws) → (more : List Packet) × Body b before (ps ++ (p ∷ more))
-  in-packets (r, (all, all-bytes, whole)) =
+  in-packets (r, _, (all, all-bytes, whole)) =
       let alone : Bytes (p ∷ []) ws = (payload, ws, [], laid, sym (append-nil ws), refl) in
       let (more, split) = first-packets (ps ++ (p ∷ [])) (qs ++ ws) r all (bytes-append ps (p ∷ []) qs ws bytes alone) all-bytes in
       (more, subst (Body b before) (split ∙ append-assoc ps (p ∷ []) more) whole)
 
   in-bytes : (more : List Packet) → Body b before (ps ++ (p ∷ more)) → All-laid more → Begins-a-body b before (qs ++ ws)
   in-bytes more whole all =
-      let (rest, behind) = all-bytes more all in
-      (rest, (ps ++ (p ∷ more), rw append-assoc (bytes-append ps (p ∷ more) qs (ws ++ rest) bytes (payload, ws, rest, laid, refl, behind)), whole))
+      let (rest, all-small, behind) = all-bytes more all in
+      (rest, all-small, (ps ++ (p ∷ more), rw append-assoc (bytes-append ps (p ∷ more) qs (ws ++ rest) bytes (payload, ws, rest, laid, refl, behind)), whole))
 
-  module _ (rest : List ℕ) (e : Ending) (here : Position) (n place : ℕ) (way : Reached (starts b before) 0 0 ps here n place) where
+  module _ (small : Byte-string (qs ++ ws)) (rest : List ℕ) (e : Ending) (here : Position) (n place : ℕ) (way : Reached (starts b before) 0 0 ps here n place) where
     abbrev all-answers : List Answer
     all-answers = answers b before (qs ++ (ws ++ rest)) e
 
@@ -152,7 +163,8 @@ module _ (b : BodyKind) (before : Option ℕ) (ps : List Packet) (qs : List ℕ)
     in-place : (Out-of-place (judged p here n) → ⊥) → Begins-a-body b before (qs ++ ws)
     in-place fits =
         let (more, whole, all) = goes-on b before ps here n place p way fits in
-        in-bytes more whole all
+        let (before-small, next-small) = both-small qs ws small in
+        in-bytes more whole (all (bytes-laid ps qs bytes before-small) (payload, ws, laid, next-small))
 
     faults-there : Faults-out-of-place b before ps qs all-answers ↔ (Begins-a-body b before (qs ++ ws) → ⊥)
     faults-there = (λ faults begins. faults-where-no-body-goes-on b before ps here n place p way .0 (faults-out faults) (in-packets begins), back)
@@ -175,17 +187,17 @@ begins-allowed : (b : BodyKind) (before : Option ℕ) (ps : List Packet) (qs : L
     → Begins-a-body b before qs
     → headers ps ≤ entry-limit
     → (here : Position) × (n place : ℕ) × Reached (starts b before) 0 0 ps here n place
-begins-allowed b before ps qs bytes (r, (all, bytes′, whole)) few =
+begins-allowed b before ps qs bytes (r, _, (all, bytes′, whole)) few =
     let (more, split) = first-packets ps qs r all bytes bytes′ in
     let (end, goes, done) = body-ends b before (ps ++ more) (subst (Body b before) split whole) in
     begins-reached (starts b before) 0 0 ps more end (omega arith) goes
 
 pub faults-exactly-where-no-body-goes-on : Faults-exactly-where-no-body-goes-on
-faults-exactly-where-no-body-goes-on b before ps qs p payload ws rest e bytes begins few laid =
+faults-exactly-where-no-body-goes-on b before ps qs p payload ws rest e bytes begins few laid small =
     let (here, n, place, way) = begins-allowed b before ps qs bytes begins few in
-    faults-there b before ps qs p payload ws bytes laid rest e here n place way
+    faults-there b before ps qs p payload ws bytes laid small rest e here n place way
 
 pub limit-exactly-at-the-256th-header : Limit-exactly-at-the-256th-header
-limit-exactly-at-the-256th-header b before ps qs p payload ws rest e bytes begins few laid =
+limit-exactly-at-the-256th-header b before ps qs p payload ws rest e bytes begins few laid small =
     let (here, n, place, way) = begins-allowed b before ps qs bytes begins few in
-    limit-there b before ps qs p payload ws bytes laid rest e here n place way
+    limit-there b before ps qs p payload ws bytes laid small rest e here n place way

@@ -4,7 +4,7 @@ use mathlib.Core.List.{List, [], _∷_, _++_}
 use Prim.Native.Nat.{ℕ}
 use Rattle.packet.specs.declared.wire.Packet.{Packet}
 use Rattle.packet.specs.declared.grammar.BodyKind.{BodyKind}
-use Rattle.bodies.specs.Layout.{Laid}
+use Rattle.bodies.specs.Layout.{Byte-string, Laid}
 use Rattle.bodies.specs.Grammar.{Body}
 use Rattle.std.specs.declared.option.Option.{Option}
 
@@ -17,6 +17,6 @@ Bytes (p ∷ ps) bs = (payload ws rest : List ℕ) × Laid p payload ws × (bs �
 abbrev pub Body-bytes : BodyKind → Option ℕ → List ℕ → Type 0
 Body-bytes b before bs = (ps : List Packet) × Bytes ps bs × Body b before ps
 
--- some body of the kind begins with the bytes bs
+-- some body of the kind begins with the bytes bs, and goes on in bytes
 abbrev pub Begins-a-body : BodyKind → Option ℕ → List ℕ → Type 0
-Begins-a-body b before bs = (rest : List ℕ) × Body-bytes b before (bs ++ rest)
+Begins-a-body b before bs = (rest : List ℕ) × Byte-string rest × Body-bytes b before (bs ++ rest)

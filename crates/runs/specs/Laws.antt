@@ -13,7 +13,7 @@ use Rattle.packet.specs.declared.grammar.Event.{Event}
 use Rattle.packet.specs.declared.grammar.StepFault.{StepFault}
 use Rattle.packet.specs.declared.grammar.StepFault.the-variants as fault
 use Rattle.packet.specs.Judging.{stopped, entry-limit}
-use Rattle.bodies.specs.Layout.{Laid}
+use Rattle.bodies.specs.Layout.{Byte-string, Laid}
 use Rattle.bodies.specs.Grammar.{Body}
 use Rattle.bodies.specs.Told.{events, headers, completes}
 use Rattle.receiver.specs.declared.answers.Answer.{Answer}
@@ -41,7 +41,7 @@ Faults-out-of-place b before ps qs told =
     Faults-behind b before ps qs fault.NotAllowedHere told
     ⊎ (Faults-behind b before ps qs fault.HeaderMarks told ⊎ Faults-behind b before ps qs fault.Incarnation told)
 
--- Where a body may begin with the packets ps, of bytes qs and at most 255 headers, and the packet p comes next, its PacketSize right: it faults as out of place exactly where no body goes on with it.
+-- Where a body may begin with the bytes qs, which are the packets ps with at most 255 headers, and the packet p comes next in the bytes ws, its PacketSize right: it faults as out of place exactly where no body goes on behind ws, in bytes.
 abbrev pub Faults-exactly-where-no-body-goes-on : Type 0
 Faults-exactly-where-no-body-goes-on =
     (b : BodyKind) (before : Option ℕ) (ps : List Packet) (qs : List ℕ) (p : Packet) (payload ws rest : List ℕ) (e : Ending)
@@ -49,6 +49,7 @@ Faults-exactly-where-no-body-goes-on =
     → Begins-a-body b before qs
     → headers ps ≤ entry-limit
     → Laid p payload ws
+    → Byte-string (qs ++ ws)
     → Faults-out-of-place b before ps qs (answers b before (qs ++ (ws ++ rest)) e)
     ↔ (Begins-a-body b before (qs ++ ws) → ⊥)
 
@@ -60,5 +61,6 @@ Limit-exactly-at-the-256th-header =
     → Begins-a-body b before qs
     → headers ps ≤ entry-limit
     → Laid p payload ws
+    → Byte-string (qs ++ ws)
     → Faults-behind b before ps qs fault.TooManyEntries (answers b before (qs ++ (ws ++ rest)) e)
     ↔ ((headers ps ≡ entry-limit) × (completes p ≡ true) × Begins-a-body b before (qs ++ ws))
