@@ -10,7 +10,7 @@ use Rattle.packet.specs.declared.grammar.BodyKind.the-variants as body
 use Rattle.packet.specs.declared.grammar.Position.{Position}
 use Rattle.packet.specs.declared.grammar.Event.{Event}
 use Rattle.packet.specs.declared.grammar.Judged.{Judged}
-use Rattle.packet.specs.Judging.{judged, starts, stopped, behind, event}
+use Rattle.packet.specs.Judging.{judged, starts, in-force-at, stopped, behind, event}
 use Rattle.packet.specs.Wire.{fixed}
 use Rattle.std.specs.declared.option.Option.{Option}
 use Rattle.std.specs.declared.option.Option.the-variants.{Some, None}
@@ -19,7 +19,6 @@ use Rattle.bodies.specs.Grammar.{Body}
 use Rattle.bodies.specs.Told.{headers, in-force, in-force-behind, letter-as, from-before, bytes-of, told-behind, events-behind, events, Accepted}
 use Rattle.bodies.specs.Laws.{Accepts-exactly-bodies}
 use Rattle.bodies.proofs.Rest.{Rest, ends-rest, body-is-rest}
-use Rattle.bodies.proofs.Ruling.{in-force-at}
 use Rattle.bodies.proofs.Leading.{Ends, body-ends}
 use Rattle.bodies.proofs.Judging.{Gives, gives, allowed, counted}
 

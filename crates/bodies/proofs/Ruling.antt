@@ -17,7 +17,7 @@ use Rattle.packet.specs.declared.grammar.StepFault.the-variants as fault
 use Rattle.packet.specs.declared.grammar.Letter.{Letter}
 use Rattle.packet.specs.declared.grammar.Letter.the-variants as letter
 use Rattle.packet.specs.declared.grammar.Judged.{Judged}
-use Rattle.packet.specs.Judging.{placed, told, completed, agreed, first, first-and-last, middle, last}
+use Rattle.packet.specs.Judging.{in-force-at, placed, told, completed, agreed, first, first-and-last, middle, last}
 use Rattle.std.specs.declared.option.Option.{Option}
 use Rattle.std.specs.declared.option.Option.the-variants.{Some, None}
 use Rattle.std.specs.declared.result.Result.{Result}
@@ -26,21 +26,6 @@ use Rattle.bodies.specs.Grammar.{Is, Header-of, Run-on, Run, Header, Entries, 
 use Rattle.bodies.specs.Told.{completing, completes, in-force-behind, letter-as, data-letter}
 use Rattle.bodies.specs.Laws.{Out-of-place}
 use Rattle.bodies.proofs.Rest.{Rest, Then-entries, over, more-data, ended, changed, part-closes, part-goes-on, some-header}
-
--- the header in force at a position
-abbrev pub in-force-at : Position → Option ℕ
-in-force-at at.Preface = None
-in-force-at (at.PrefaceOf i) = None
-in-force-at (at.DescribeRun i) = None
-in-force-at (at.Described i) = Some i
-in-force-at at.HeaderDue = None
-in-force-at (at.MetadataOf i) = None
-in-force-at (at.HeaderRun i) = None
-in-force-at (at.InForce i) = Some i
-in-force-at at.EntryOver = None
-in-force-at at.BodyOver = None
-in-force-at at.Resuming = None
-in-force-at (at.ResumingUnder i) = Some i
 
 -- the Incarnation of a header that has begun and is not complete at a position is a byte
 abbrev pub Byte-held : Position → Type 0

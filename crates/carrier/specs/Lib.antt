@@ -1,3 +1,4 @@
 pub mod Pulls
 pub mod Fills
 pub mod Alone
+pub mod Passing

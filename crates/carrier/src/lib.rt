@@ -11,11 +11,13 @@ ghost use Rattle.carrier.specs.Pulls.{Answers, Adds, given, told};
 
 mod filling;
 mod images;
+mod passing;
 
 pub use filling::Filled;
 pub use filling::fill;
 pub use images::Image;
 pub use images::ImageCarrier;
+pub use passing::passed_on;
 
 // Why a carrier broke off, and where that was found.
 #[derive(Clone, Copy)]

@@ -18,7 +18,8 @@ use Rattle.receiver.specs.declared.standings.Standing.{Standing}
 use Rattle.receiver.specs.Draws.{used}
 use Rattle.receiver.specs.Steps.{work-length, steps, stepped, step-standing, step-used}
 use Rattle.runs.specs.Answers.{answers-from}
-use Rattle.runs.proofs.Stepping.{event-uses, answers-next, step-answers, step-stands, step-uses}
+use Rattle.receiver.proofs.Uses.{event-uses}
+use Rattle.runs.proofs.Stepping.{answers-next, step-answers, step-stands, step-uses}
 use Rattle.listing.specs.Lines.{line-of}
 use Rattle.listing.specs.Listings.{lines-from}
 

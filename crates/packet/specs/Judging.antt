@@ -44,6 +44,21 @@ ends at.BodyOver = true
 ends at.Resuming = true
 ends (at.ResumingUnder of) = true
 
+-- the header in force at a position
+abbrev pub in-force-at : Position → Option ℕ
+in-force-at at.Preface = None
+in-force-at (at.PrefaceOf i) = None
+in-force-at (at.DescribeRun i) = None
+in-force-at (at.Described i) = Some i
+in-force-at at.HeaderDue = None
+in-force-at (at.MetadataOf i) = None
+in-force-at (at.HeaderRun i) = None
+in-force-at (at.InForce i) = Some i
+in-force-at at.EntryOver = None
+in-force-at at.BodyOver = None
+in-force-at at.Resuming = None
+in-force-at (at.ResumingUnder i) = Some i
+
 -- AFFlags of a $H: neither mark, the first of its header, the last, or both
 abbrev pub middle : ℕ
 middle = 0x00

@@ -1,6 +1,6 @@
 // The grammar of bodies: which packet may come where, and what it then gives.
 ghost use mathlib.Core.Path.{_≡_};
-ghost use Rattle.packet.specs.Judging.{judged, ends, starts, completed, told as tells};
+ghost use Rattle.packet.specs.Judging.{judged, ends, starts, in-force-at, completed, told as tells};
 use super::wire::Fields;
 use super::wire::Kind;
 use super::wire::Packet;
@@ -124,6 +124,24 @@ pub fn may_end(at: Position) -> bool
         | Position::MetadataOf(_)
         | Position::HeaderRun(_)
         | Position::InForce(_) => false,
+    }
+}
+
+// The Incarnation of the header in force, where one is.
+pub fn in_force(at: Position) -> Option<u8>
+    ensures { λ r. ⌜ r ≡ in-force-at at ⌝ }
+{
+    match at {
+        Position::Described(of) | Position::InForce(of) | Position::ResumingUnder(of) => Some(of),
+        Position::Preface
+        | Position::PrefaceOf(_)
+        | Position::DescribeRun(_)
+        | Position::HeaderDue
+        | Position::MetadataOf(_)
+        | Position::HeaderRun(_)
+        | Position::EntryOver
+        | Position::BodyOver
+        | Position::Resuming => None,
     }
 }
 

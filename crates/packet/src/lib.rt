@@ -8,6 +8,7 @@ pub use grammar::Judged;
 pub use grammar::Letter;
 pub use grammar::Position;
 pub use grammar::StepFault;
+pub use grammar::in_force;
 pub use grammar::judge;
 pub use grammar::may_end;
 pub use grammar::start;

@@ -1,1 +1,3 @@
 mod Draws
+pub mod Uses
+mod Passing

@@ -15,7 +15,7 @@ use Rattle.packet.specs.declared.grammar.StepFault.{StepFault}
 use Rattle.packet.specs.declared.grammar.StepFault.the-variants as fault
 use Rattle.packet.specs.declared.grammar.Judged.{Judged}
 use Rattle.packet.specs.Wire.{sized}
-use Rattle.packet.specs.Judging.{starts, ends, judged, stopped, behind, event}
+use Rattle.packet.specs.Judging.{starts, ends, in-force-at, judged, stopped, behind, event}
 use Rattle.receiver.specs.declared.answers.Answer.{Answer}
 use Rattle.receiver.specs.declared.answers.Answer.the-variants as answer
 use Rattle.receiver.specs.declared.answers.Failure.{Failure}
@@ -28,6 +28,7 @@ use Rattle.receiver.specs.declared.standings.Progress.the-variants as progress
 use Rattle.receiver.specs.declared.standings.Standing.{Standing}
 use Rattle.receiver.specs.declared.standings.Settled.{Settled}
 use Rattle.receiver.specs.Draws.{draws, used, front, ran-out}
+use Rattle.std.specs.Options.{isSome}
 use Rattle.std.specs.declared.option.Option.{Option}
 use Rattle.std.specs.declared.option.Option.the-variants.{Some, None}
 use Rattle.std.specs.declared.result.Result.{Result}
@@ -45,8 +46,8 @@ abbrev pub failure : StepFault → ℕ → Option Fault → Failure
 failure f place carrier = record { fault = f; place = place; carrier = carrier }
 
 -- the clean end is answered
-abbrev pub closes : ℕ → ℕ → Settled
-closes place entry = record { answer = answer.End place; standing = record { place = place; entry = entry; progress = progress.Ended } }
+abbrev pub closes : Position → ℕ → ℕ → Settled
+closes at place entry = record { answer = answer.End place; standing = record { place = place; entry = entry; progress = progress.Ended at } }
 
 -- a packet that begins at s's place is allowed, or not
 abbrev pub settles-packet : Standing → Packet → Result Judged StepFault → Settled
@@ -59,7 +60,7 @@ settles-packet s p (Ok j) =
 
 -- the bytes came to an ending; place bytes were drawn, n of them of a packet that is cut short
 abbrev pub settles-end : Position → ℕ → ℕ → ℕ → Ending → Settled
-settles-end at place entry n ending.Clean = cond (ends at && eqb n 0) (closes place entry) (fails place entry (failure fault.EndsEarly place None))
+settles-end at place entry n ending.Clean = cond (ends at && eqb n 0) (closes at place entry) (fails place entry (failure fault.EndsEarly place None))
 settles-end at place entry n (ending.Broken f) = fails place entry (failure fault.CarrierBroke place (Some f))
 
 -- what was drawn, at a position of the grammar
@@ -71,7 +72,7 @@ settles s at (drawn.Short n e) = settles-end at (stopped (s .place + n)) (s .ent
 -- a Step in which the work buffer is long enough
 abbrev pub goes-on : Standing → Progress → List ℕ → Ending → Settled
 goes-on s (progress.Reading at) bs e = settles s at (draws bs e)
-goes-on s progress.Ended bs e = record { answer = answer.End (s .place); standing = s }
+goes-on s (progress.Ended at) bs e = record { answer = answer.End (s .place); standing = s }
 goes-on s (progress.Failed f) bs e = record { answer = answer.Failed f; standing = s }
 
 abbrev pub steps : Standing → List ℕ → Ending → Settled
@@ -90,19 +91,19 @@ abbrev pub step-standing : Standing → ℕ → List ℕ → Ending → Standing
 step-standing s room bs e = cond (leb work-length room) (steps s bs e .standing) s
 
 -- how many bytes it used, whether it reached the ending, and the bytes that it put in front of the work buffer
-abbrev reading-used : Progress → List ℕ → ℕ
+abbrev pub reading-used : Progress → List ℕ → ℕ
 reading-used (progress.Reading at) bs = used bs
-reading-used progress.Ended bs = 0
+reading-used (progress.Ended at) bs = 0
 reading-used (progress.Failed f) bs = 0
 
-abbrev reading-told : Progress → List ℕ → Ending → Bool
+abbrev pub reading-told : Progress → List ℕ → Ending → Bool
 reading-told (progress.Reading at) bs e = ran-out (draws bs e)
-reading-told progress.Ended bs e = false
+reading-told (progress.Ended at) bs e = false
 reading-told (progress.Failed f) bs e = false
 
-abbrev reading-front : Progress → List ℕ → List ℕ
+abbrev pub reading-front : Progress → List ℕ → List ℕ
 reading-front (progress.Reading at) bs = front bs
-reading-front progress.Ended bs = []
+reading-front (progress.Ended at) bs = []
 reading-front (progress.Failed f) bs = []
 
 abbrev pub step-used : Standing → ℕ → List ℕ → ℕ
@@ -117,8 +118,17 @@ step-front s room bs = cond (leb work-length room) (reading-front (s .progress) 
 -- whether the clean end was answered
 abbrev ended-in : Progress → Bool
 ended-in (progress.Reading at) = false
-ended-in progress.Ended = true
+ended-in (progress.Ended at) = true
 ended-in (progress.Failed f) = false
 
 abbrev pub ended : Standing → Bool
 ended s = ended-in (s .progress)
+
+-- whether a header is in force, and no fault was answered
+abbrev headed-in : Progress → Bool
+headed-in (progress.Reading at) = isSome (in-force-at at)
+headed-in (progress.Ended at) = isSome (in-force-at at)
+headed-in (progress.Failed f) = false
+
+abbrev pub headed : Standing → Bool
+headed s = headed-in (s .progress)

@@ -9,6 +9,8 @@ mod tickets;
 
 pub use answers::Answer;
 pub use answers::Failure;
+pub use answers::PassRefusal;
+pub use answers::Passed;
 pub use answers::StepRefusal;
 pub use receiving::Closed;
 pub use receiving::Receiver;

@@ -1,6 +1,6 @@
 // Where a receiver stands in its body, and what a drawn packet makes of that.
 ghost use mathlib.Core.Path.{_≡_};
-ghost use Rattle.receiver.specs.Steps.{opened, settles, fails, failure, ended};
+ghost use Rattle.receiver.specs.Steps.{opened, settles, fails, failure, ended, headed};
 use super::answers::Answer;
 use super::answers::Failure;
 use super::drawing::Drawn;
@@ -12,6 +12,7 @@ use packet::Packet;
 use packet::Position;
 use packet::StepFault;
 use packet::fixed_length;
+use packet::in_force;
 use packet::judge;
 use packet::may_end;
 use packet::size_agrees;
@@ -21,7 +22,8 @@ use packet::start;
 #[derive(Clone, Copy)]
 pub enum Progress {
     Reading(Position),
-    Ended,
+    // the clean end, at this position
+    Ended(Position),
     Failed(Failure),
 }
 
@@ -57,8 +59,18 @@ impl Standing {
         ensures { λ r. ⌜ r ≡ ended self ⌝ }
     {
         match self.progress {
-            Progress::Ended => true,
+            Progress::Ended(_) => true,
             Progress::Reading(_) | Progress::Failed(_) => false,
+        }
+    }
+
+    // Whether a header is in force, and no fault was answered.
+    pub fn has_header(self) -> bool
+        ensures { λ r. ⌜ r ≡ headed self ⌝ }
+    {
+        match self.progress {
+            Progress::Reading(at) | Progress::Ended(at) => in_force(at).is_some(),
+            Progress::Failed(_) => false,
         }
     }
 
@@ -114,7 +126,7 @@ impl Standing {
                 standing: Standing {
                     place,
                     entry: self.entry,
-                    progress: Progress::Ended,
+                    progress: Progress::Ended(at),
                 },
             },
             Ending::Clean => self.fail(place, StepFault::EndsEarly, place, None),

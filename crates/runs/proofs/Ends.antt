@@ -100,7 +100,7 @@ module _ (k : ℕ) (e : Ending) (end : ℕ) (only : Only-bodies k e end) (here :
       → draws bs e ≡ drawn.Short n ending.Clean
       → (a : Bool) → ends here ≡ a
       → (z : Bool) → eqb n 0 ≡ z
-      → told (cond (a && z) (closes (stopped (place + n)) entry) (fails (stopped (place + n)) entry (failure fault.EndsEarly (stopped (place + n)) None))) ≡ clean-answers es end
+      → told (cond (a && z) (closes here (stopped (place + n)) entry) (fails (stopped (place + n)) entry (failure fault.EndsEarly (stopped (place + n)) None))) ≡ clean-answers es end
       → Was-body here entry place bs e es end
   at-end n short true done true nothing same =
       let (long, clean) = short-is bs e n ending.Clean short in

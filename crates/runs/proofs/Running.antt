@@ -45,7 +45,7 @@ module _ (p : Packet) (payload ws : List ℕ) (laid : Laid p payload ws) where
   left-over r = ap (λ n. drop n (ws ++ r)) (laid-read p payload ws laid .used-whole r) ∙ drop-append-seam ws r
 
   module _ (here : Position) (entry place : ℕ) (r : List ℕ) (e : Ending) where
-    steps-over : steps (reading here entry place) (ws ++ r) e ≡ settles-packet (reading here entry place) p (judged p here entry)
+    pub steps-over : steps (reading here entry place) (ws ++ r) e ≡ settles-packet (reading here entry place) p (judged p here entry)
     steps-over =
         ap (settles (reading here entry place) here) (laid-read p payload ws laid .drawn-whole r e)
         ∙ ap (settles-packet (reading here entry place) p) (cond-true _ _ _ (laid-read p payload ws laid .right))

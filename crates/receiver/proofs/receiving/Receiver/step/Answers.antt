@@ -1,12 +1,7 @@
-use mathlib.Core.Path.{_≡_, refl, sym, ap, subst, _∙_}
-use mathlib.Core.Bool.{true, false}
-use native.Mathlib.Omega.{arith}
-use lib.Dec.{leb}
+use mathlib.Core.Path.{refl, ap}
 use lib.ListN.{length}
-use borrow.Author.Needs.{needs}
 use Rattle.std.proofs.shelf.Tests.{le-leb, lt-leb}
-use Rattle.receiver.specs.Draws.{used, ran-out}
-use Rattle.receiver.specs.Steps.{work-length, settles}
+use Rattle.receiver.specs.Steps.{work-length}
 use Rattle.std.specs.declared.result.Result.the-variants.{Ok}
 use Rattle.receiver.proofs.receiving.Receiver.step.Needs as need
 
@@ -21,16 +16,8 @@ returns-then-work-lt-WORK-LENGTH g c =
       lacks = rw short (g .C·Carrier .adds .same (c .args .self .now .carrier));
     }
 
-pub returns-in-Reading : need.returns-in-Reading
-returns-in-Reading g c =
+pub returns : need.returns
+returns g c =
     let long = le-leb work-length (length (c .args .work .now)) (c .if-work-lt-WORK-LENGTH .left) in
-    let is = c .in-Reading .is in
-    let drawn = c .draw-drawn .ensures in
-    let settled = c .settle-settled .ensures ∙ ap (settles (c .args .self .now .standing) (c .in-Reading .at)) (drawn .answer) in
-    record {
-      answer = rw (long, is) (ap (λ r. Ok (r .answer)) settled);
-      standing = rw (long, is) (ap (λ r. r .standing) settled);
-      number = refl;
-      buffer = rw (long, is) (drawn .buffer);
-      lacks = rw (long, is) (subst (λ r. g .C·Carrier .lacks (c .args .self .now .carrier) (used (g .C·Carrier .coming (c .args .self .now .carrier))) (ran-out r) (c .draw-drawn .last .carrier)) (drawn .answer) (drawn .lacks));
-    }
+    let told = c .advance .ensures in
+    record { answer = rw long (ap Ok (told .answer)); standing = rw long (told .standing); number = told .number; buffer = rw long (told .buffer); lacks = rw long (told .lacks) }

@@ -1,0 +1,4 @@
+pub mod Calling
+pub mod Outcomes
+pub mod Order
+pub mod Law

@@ -1,0 +1,5 @@
+mod Advancing
+mod Pulling
+mod Leading
+mod Reading
+mod Deciding

@@ -1,0 +1,4 @@
+mod Stretches
+mod Draws
+mod SoMany
+mod Loads
