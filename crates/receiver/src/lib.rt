@@ -1,6 +1,7 @@
 // The receiver: reads a response body from any carrier, and tells its packets one by one.
 //
-// Open gives a receiver and a ticket, Step answers one event, Close takes both and gives back the carrier.
+// Open gives a receiver and a ticket, Step answers one event, Pass goes over data packets, and Close takes
+// receiver and ticket and gives back the carrier.
 mod answers;
 mod drawing;
 mod receiving;

@@ -1,4 +1,4 @@
-// Open, Step and Close.
+// Open, Step, Pass and Close.
 ghost use mathlib.Core.Path.{_≡_};
 ghost use mathlib.Core.Bool.{_&&_};
 ghost use lib.Dec.{eqb};
