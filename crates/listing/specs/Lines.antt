@@ -11,8 +11,7 @@ use Rattle.carrier.specs.declared.Fault.{Fault}
 use Rattle.packet.specs.declared.grammar.Event.{Event}
 use Rattle.packet.specs.declared.grammar.Letter.{Letter}
 use Rattle.packet.specs.declared.grammar.Letter.the-variants as letter
-use Rattle.packet.specs.declared.grammar.StepFault.{StepFault}
-use Rattle.packet.specs.declared.grammar.StepFault.the-variants as fault
+use Rattle.packet.specs.Judging.{fault-number}
 use Rattle.receiver.specs.declared.answers.Answer.{Answer}
 use Rattle.receiver.specs.declared.answers.Answer.the-variants as answer
 use Rattle.receiver.specs.declared.answers.Failure.{Failure}
@@ -31,19 +30,6 @@ letter-text letter.Header = codes "H"
 letter-text letter.Metadata = codes "M"
 letter-text letter.PacketPair = codes "P"
 letter-text letter.Stale = codes "S"
-
--- what a receiver finds wrong, by its number
-abbrev pub fault-number : StepFault → ℕ
-fault-number fault.Mark = 21
-fault-number fault.Kind = 22
-fault-number fault.PacketLength = 23
-fault-number fault.PacketSize = 24
-fault-number fault.HeaderMarks = 25
-fault-number fault.NotAllowedHere = 26
-fault-number fault.Incarnation = 27
-fault-number fault.EndsEarly = 28
-fault-number fault.CarrierBroke = 29
-fault-number fault.TooManyEntries = 30
 
 -- why a capture is refused, by its number
 abbrev pub refusal-number : CaptureRefusal → ℕ

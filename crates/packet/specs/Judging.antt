@@ -22,6 +22,19 @@ use Rattle.std.specs.declared.option.Option.the-variants.{Some, None}
 use Rattle.std.specs.declared.result.Result.{Result}
 use Rattle.std.specs.declared.result.Result.the-variants.{Ok, Err}
 
+-- what a receiver finds wrong, by its number
+abbrev pub fault-number : StepFault → ℕ
+fault-number fault.Mark = 21
+fault-number fault.Kind = 22
+fault-number fault.PacketLength = 23
+fault-number fault.PacketSize = 24
+fault-number fault.HeaderMarks = 25
+fault-number fault.NotAllowedHere = 26
+fault-number fault.Incarnation = 27
+fault-number fault.EndsEarly = 28
+fault-number fault.CarrierBroke = 29
+fault-number fault.TooManyEntries = 30
+
 -- where a body of a kind begins; the Incarnation from before counts for PlayNext only
 abbrev pub starts : BodyKind → Option ℕ → Position
 starts body.Describe before = at.Preface
