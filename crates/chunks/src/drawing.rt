@@ -50,10 +50,10 @@ pub fn telling(ending: Ending) -> Pulled
 }
 
 // Whether no more single bytes are to be drawn, and why.
-fn reached_at(state: State, drawn: u64) -> Option<Reached>
-    ensures { λ r. ⌜ r ≡ reached-at state drawn ⌝ }
+fn reached_at(state: &State, drawn: u64) -> Option<Reached>
+    ensures { λ r. ⌜ r ≡ reached-at (now (state .entry)) drawn ⌝ }
 {
-    match state {
+    match *state {
         State::Data { left } if left > 0 => Some(Reached::Chunk { left }),
         State::Done => Some(Reached::End(Ending::Clean)),
         State::Failed(cause) => Some(Reached::End(Ending::Broken(own_fault(cause, drawn)))),
@@ -78,12 +78,12 @@ pub fn advance<C: Carrier>(beneath: &mut C, state: &mut State, drawn: &mut u64) 
     ensures { λ r. ⌜ Advanced (C·Carrier .coming) (C·Carrier .ending) (C·Carrier .lacks) (now (beneath .entry)) (now (beneath .exit)) (now (state .entry)) (now (drawn .entry)) (now (state .exit)) (now (drawn .exit)) r ⌝ }
 {
     loop {
-        if let Some(reached) = reached_at(*state, *drawn) {
+        if let Some(reached) = reached_at(state, *drawn) {
             return reached;
         }
         match draw(beneath) {
             Ok(byte) => {
-                *state = next_state(*state, byte);
+                *state = next_state(state, byte);
                 *drawn = drawn.saturating_add(1);
             }
             Err(ending) => return Reached::End(cut_short(*drawn, ending)),

@@ -177,10 +177,10 @@ fn after_trailer(length: u16, line: Line, byte: u8) -> State
 }
 
 // The state that a byte leads to.
-pub fn next_state(state: State, byte: u8) -> State
-    ensures { λ r. ⌜ r ≡ next-state state byte ⌝ }
+pub fn next_state(state: &State, byte: u8) -> State
+    ensures { λ r. ⌜ r ≡ next-state (now (state .entry)) byte ⌝ }
 {
-    match state {
+    match *state {
         State::Size { digits, value } => after_size(digits, value, byte),
         State::Extension { length, value } => after_extension(length, value, byte),
         State::SizeCr { value } => after_size_cr(value, byte),
