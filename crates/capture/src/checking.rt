@@ -9,6 +9,7 @@ ghost use Rattle.capture.specs.Recordings.{Accepts-exactly-captures};
 ghost use Rattle.capture.specs.Replays.{held, carried};
 ghost use Rattle.capture.specs.Captures.{pieced, ended, checked, captured};
 use super::Capture;
+use super::sections::CaptureCause;
 use super::sections::CaptureRefusal;
 use super::sections::Sections;
 use super::sections::number_of;
@@ -40,7 +41,7 @@ fn read_ending(endings: &[u8], count: usize) -> Result<Ending, CaptureRefusal>
     match endings {
         [0] => Ok(Ending::Clean),
         [1] => Ok(Ending::Broken(Fault {
-            cause: 7,
+            cause: CaptureCause::LineBroke as u8,
             place: count as u64,
             depth: 0,
         })),

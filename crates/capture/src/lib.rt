@@ -15,6 +15,7 @@ mod replaying;
 mod sections;
 
 pub use replaying::CaptureCarrier;
+pub use sections::CaptureCause;
 pub use sections::CaptureRefusal;
 
 // A capture that was checked, and what of it is still to come.

@@ -17,6 +17,13 @@ pub enum CaptureRefusal {
     BadEnding = 64,
 }
 
+// What a capture finds wrong when it is replayed.
+#[derive(Clone, Copy)]
+pub enum CaptureCause {
+    // the recorded connection broke off
+    LineBroke = 7,
+}
+
 const MOST_PIECES: u32 = 4096;
 
 // What the three sections hold.
