@@ -1,3 +1,4 @@
+use mathlib.Core.Path.{refl}
 use Rattle.bodies.proofs.Accepting as accepting
 use Rattle.bodies.proofs.Reaching as reaching
 use Rattle.bodies.proofs.bodies_are_judged_right.Needs as need
@@ -5,6 +6,7 @@ use Rattle.bodies.proofs.bodies_are_judged_right.Needs as need
 pub returns : need.returns
 returns c =
     record {
+      answer = refl;
       accepts-exactly-bodies = accepting.accepts-exactly-bodies;
       faults-where-no-body-goes-on = reaching.faults-where-no-body-goes-on;
       goes-on = reaching.goes-on;
