@@ -16,6 +16,6 @@ invariant-of-self c =
 pub returns-in-len4-up : goal.returns-in-len4-up
 returns-in-len4-up c =
     let h : 4 ≤ length c.args.self.now.lengths.now = omega (arith, ltb-false) in
-    let full = next_full c.args.self.now.left c.args.self.now.lengths.now c.number-of-self.result c.if-self-eq0.true h c.number-of-self.ensures c.args.self.now.full in
-    let e = next_begun c.args.self.now.left c.args.self.now.lengths.now c.number-of-self.result c.if-self-eq0.true h c.number-of-self.ensures c.args.self.now.full in
+    let full = next_full c.args.self.now.left c.args.self.now.lengths.now c.number_of-self.result c.if-self-eq0.true h c.number_of-self.ensures c.args.self.now.full in
+    let e = next_begun c.args.self.now.left c.args.self.now.lengths.now c.number_of-self.result c.if-self-eq0.true h c.number_of-self.ensures c.args.self.now.full in
     record { same = ap (λ (ps : List ℕ). (ps, c.args.self.now.bytes.now, c.args.self.now.ending)) e; begun = λ z. absurd (omega arith) }

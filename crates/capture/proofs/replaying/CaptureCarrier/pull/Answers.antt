@@ -81,7 +81,7 @@ returns c =
     let len = ap length kept in
     let q = sym (same_pieces c.begin.new.self c.args.self.now same) ∙ to_come_some c.begin.new.self.left (numbers c.begin.new.self.lengths.now) (omega arith) in
     let n : c.min-n.result ≡ min c.begin.new.self.left (length c.args.out.now) = omega arith in
-    let written : c.copy-from-slice.new.self ++ post_of 0 (c.min-n.result - 0) c.args.out.now ≡ take c.min-n.result c.begin.new.self.bytes.now ++ drop c.min-n.result c.args.out.now = search (rules, overwrites) in
+    let written : c.copy_from_slice.new.self ++ post_of 0 (c.min-n.result - 0) c.args.out.now ≡ take c.min-n.result c.begin.new.self.bytes.now ++ drop c.min-n.result c.args.out.now = search (rules, overwrites) in
     let rest = take_rest c.begin.new.self.bytes.now c.min-n.result ∙ ap (drop c.min-n.result) kept in
     record {
       answers = (omega arith, omega arith, λ h. omega arith, rest, e, written ∙ ap (λ (bs : List ℕ). take c.min-n.result bs ++ drop c.min-n.result c.args.out.now) kept);
