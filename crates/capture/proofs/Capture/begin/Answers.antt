@@ -3,15 +3,14 @@ use Rattle.capture.specs.Pieces.{total, none_empty}
 use Rattle.capture.proofs.Coming.{next_full, next_begun}
 use Rattle.capture.proofs.Capture.begin.Goals as goal
 
-pub invariant-of-self : goal.invariant-of-self
-invariant-of-self c =
-    let e = sym (next_begun c.args.self.now.left c.args.self.now.lengths.now c.number-of-self.result c.if-self-eq0.true (omega (arith, ltb-false)) c.number-of-self.ensures c.args.self.now.full) in (
-      subst (λ (ps : List ℕ). length ps ≤ 4096) e c.args.self.now.few,
-      (
-        subst (λ (ps : List ℕ). none_empty ps ≡ true) e c.args.self.now.full,
-        (subst (λ (ps : List ℕ). eqb (total ps) (length c.args.self.now.bytes.now) ≡ true) e c.args.self.now.adds, tt),
-      ),
-    )
+pub invariant_of-self : goal.invariant_of-self
+invariant_of-self c =
+    let e = sym (next_begun c.args.self.now.left c.args.self.now.lengths.now c.number_of-self.result c.if-self-eq0.true (omega (arith, ltb-false)) c.number_of-self.ensures c.args.self.now.full) in
+    record {
+      few = subst (λ (ps : List ℕ). length ps ≤ 4096) e c.args.self.now.few;
+      full = subst (λ (ps : List ℕ). none_empty ps ≡ true) e c.args.self.now.full;
+      adds = subst (λ (ps : List ℕ). eqb (total ps) (length c.args.self.now.bytes.now) ≡ true) e c.args.self.now.adds;
+    }
 
 pub returns-in-len4-up : goal.returns-in-len4-up
 returns-in-len4-up c =

@@ -62,15 +62,14 @@ returns-in-Broken c =
       left = p ∙ sym (ap (less 0) (sym (same_pieces t s same) ∙ p));
     }
 
-pub invariant-of-self : goal.invariant-of-self
-invariant-of-self c =
-    let few = few_to_come (c.begin.new.self.left - c.min-n.result) c.begin.new.self.left (numbers c.begin.new.self.lengths.now) (omega arith) in (
-      omega (arith, c.begin.new.self.few),
-      (
-        full_handed (c.begin.new.self.left - c.min-n.result) c.begin.new.self.left (numbers c.begin.new.self.lengths.now) c.begin.new.self.full,
-        (total_handed c.begin.new.self.left c.min-n.result (numbers c.begin.new.self.lengths.now) c.begin.new.self.bytes.now (omega arith) c.begin.new.self.adds, tt),
-      ),
-    )
+pub invariant_of-self : goal.invariant_of-self
+invariant_of-self c =
+    let few = few_to_come (c.begin.new.self.left - c.min-n.result) c.begin.new.self.left (numbers c.begin.new.self.lengths.now) (omega arith) in
+    record {
+      few = omega (arith, c.begin.new.self.few);
+      full = full_handed (c.begin.new.self.left - c.min-n.result) c.begin.new.self.left (numbers c.begin.new.self.lengths.now) c.begin.new.self.full;
+      adds = total_handed c.begin.new.self.left c.min-n.result (numbers c.begin.new.self.lengths.now) c.begin.new.self.bytes.now (omega arith) c.begin.new.self.adds;
+    }
 
 pub returns : goal.returns
 returns c =
