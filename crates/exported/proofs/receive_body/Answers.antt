@@ -17,7 +17,7 @@ loop-answer-preserved g c =
     let told = c.in-Ok.ensures in
     let inv = c.loop-answer.invariant in
     let x = c.step.new.work in
-    let mixes = c.mixed-payload-sum.ensures ∙ ap (λ y. mixed_payload y (take (c.in-Event.event.payload_length - 0) x)) c.mixed-event-sum.ensures ∙ ap (λ n. mixed_payload (mixed_event c.loop-answer.sum c.in-Event.event) (take n x)) (omega arith) ∙ sym (ap (λ y. mixed_answer c.loop-answer.sum y x) c.in-Event.is) in
+    let mixes = c.mixed_payload-sum.ensures ∙ ap (λ y. mixed_payload y (take (c.in-Event.event.payload_length - 0) x)) c.mixed_event-sum.ensures ∙ ap (λ n. mixed_payload (mixed_event c.loop-answer.sum c.in-Event.event) (take n x)) (omega arith) ∙ sym (ap (λ y. mixed_answer c.loop-answer.sum y x) c.in-Event.is) in
     (search rules, told.number ∙ inv.1, next_reads m.adds c.loop-answer.receiver.carrier c.step.new.self.carrier c.loop-answer.receiver.standing c.step.new.self.standing c.loop-answer.work c.step.new.work c.loop-answer.sum (omega arith) c.in-Ok.answer told.answer told.standing told.buffer _ told.lacks c.in-Event.event c.in-Event.is _ mixes ∙ inv.2)
 
 pub returns-in-End : goal.returns-in-End

@@ -12,13 +12,13 @@ pub loop-call-preserved : goal.loop-call-preserved
 loop-call-preserved g c =
     let m = g.C.Carrier in
     let inv = c.loop-call.invariant in
-    let made = c.make-call-reply.ensures in
+    let made = c.make_call-reply.ensures in
     let cs = drop_more c.args.calls.now c.loop-call.call-index (call.Step 0) c.loop-call-test.true in (
       search rules,
       search rules,
       search rules,
       made.number ∙ inv.3,
-      next_call m.adds c.args.receiver.now.carrier _ c.loop-call.receiver.carrier c.make-call-reply.new.receiver.carrier c.loop-call.receiver.standing c.make-call-reply.new.receiver.standing c.loop-call.work c.make-call-reply.new.work (vec_items c.loop-call.replies) (vec_items c.push-reserved.new.self) inv.4.0 inv.4.1 (get_or c.args.calls.now c.loop-call.call-index (call.Step 0)) (drop (c.loop-call.call-index + 1) c.args.calls.now) c.make-call-reply.result inv.4.2 made.makes made.lacks c.push-reserved.ensures.items
+      next_call m.adds c.args.receiver.now.carrier _ c.loop-call.receiver.carrier c.make_call-reply.new.receiver.carrier c.loop-call.receiver.standing c.make_call-reply.new.receiver.standing c.loop-call.work c.make_call-reply.new.work (vec_items c.loop-call.replies) (vec_items c.push_reserved.new.self) inv.4.0 inv.4.1 (get_or c.args.calls.now c.loop-call.call-index (call.Step 0)) (drop (c.loop-call.call-index + 1) c.args.calls.now) c.make_call-reply.result inv.4.2 made.makes made.lacks c.push_reserved.ensures.items
           (ap (λ x. and_then (vec_items c.loop-call.replies) inv.4.0 inv.4.1 (calls_run c.loop-call.receiver.standing (m.coming c.loop-call.receiver.carrier) (m.ending c.loop-call.receiver.carrier) c.loop-call.work x)) (sym cs) ∙ inv.4.3),
     )
 

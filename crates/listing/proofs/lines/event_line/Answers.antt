@@ -6,6 +6,6 @@ use Rattle.listing.proofs.lines.event_line.Goals as goal
 
 pub returns : goal.returns
 returns c =
-    let told = c.letter-of-letter.ensures in
-    let letter = encode_ascii c.letter-of-letter.result told.ascii ∙ told.text in
+    let told = c.letter_of-letter.ensures in
+    let letter = encode_ascii c.letter_of-letter.result told.ascii ∙ told.text in
     IfOk-weaker c.format.result _ _ (λ t e. e ∙ simp (letter, append_assoc)) c.format.ensures.ok

@@ -15,7 +15,7 @@ pub loop-answer-preserved : goal.loop-answer-preserved
 loop-answer-preserved g c =
     let m = g.C.Carrier in
     let told = c.in-Ok.ensures in
-    let pushed = chosen _ _ _ _ c.add-line.ensures (ap is_ok c.in-ok-add-line.was) in
+    let pushed = chosen _ _ _ _ c.add_line.ensures (ap is_ok c.in_ok-add_line.was) in
     let rest = next_lines m.adds c.loop-answer.receiver.carrier c.step.new.self.carrier c.loop-answer.receiver.standing c.step.new.self.standing (length c.loop-answer.work) (omega arith) c.in-Ok.answer told.answer told.standing _ told.lacks c.in-Event.field-0 c.in-Event.is in (
       search rules,
       ap (λ l. l ++ lines_from c.step.new.self.standing (m.coming c.step.new.self.carrier) (m.ending c.step.new.self.carrier)) pushed

@@ -19,13 +19,13 @@ returns-in-Short g c =
 pub returns-in-Short-fill : goal.returns-in-Short-fill
 returns-in-Short-fill g c =
     let m = g.C.Carrier in
-    let first = c.in-default.ensures in
+    let first = c.in_default.ensures in
     let told = c.in-Short-fill.ensures in
     let small = fixed_small c.args.head.kind in
     let fits = fixed_fits c.args.head.kind c.args.head.length c.requires.lawful in
     let left = (m.adds.spends c.args.carrier.now c.fill.new.carrier _ false first.lacks).1 in
     let same = m.adds.ends c.args.carrier.now c.fill.new.carrier _ false first.lacks in
-    let payload : ℕ = c.args.head.length - c.fixed-length-fixed.result - 0 in
+    let payload : ℕ = c.args.head.length - c.fixed_length-fixed.result - 0 in
     let rest = payload_drawn c.args.head c.requires.lawful (m.coming c.args.carrier.now) (m.ending c.args.carrier.now) _ (simp length-take (omega arith)) first.answer _ left _ (simp length-take (omega arith)) m.adds c.args.carrier.now c.fill.new.carrier c.fill-2.new.carrier true first.lacks told.lacks c.args.work.now c.fill-2.new.out payload (sym (simp length-take (omega arith))) (omega arith) told.bytes in
     record {
       answer = ap (λ x. drawn.Short (4 + x + c.in-Short-fill.branch) c.in-Short-fill.ending) (sym (simp length-take (omega arith))) ∙ short_of_payload c.args.head c.requires.lawful (m.coming c.args.carrier.now) (m.ending c.args.carrier.now) _ (simp length-take (omega arith)) first.answer _ left _ (simp length-take (omega arith)) _ _ (told.answer ∙ ap (λ x. fills (m.coming c.fill.new.carrier) x (length (take payload c.args.work.now))) same);
@@ -36,16 +36,16 @@ returns-in-Short-fill g c =
 pub returns : goal.returns
 returns g c =
     let m = g.C.Carrier in
-    let first = c.in-default.ensures in
-    let told = c.in-default-fill.ensures in
+    let first = c.in_default.ensures in
+    let told = c.in_default-fill.ensures in
     let small = fixed_small c.args.head.kind in
     let fits = fixed_fits c.args.head.kind c.args.head.length c.requires.lawful in
     let left = (m.adds.spends c.args.carrier.now c.fill.new.carrier _ false first.lacks).1 in
     let same = m.adds.ends c.args.carrier.now c.fill.new.carrier _ false first.lacks in
-    let payload : ℕ = c.args.head.length - c.fixed-length-fixed.result - 0 in
+    let payload : ℕ = c.args.head.length - c.fixed_length-fixed.result - 0 in
     let rest = payload_drawn c.args.head c.requires.lawful (m.coming c.args.carrier.now) (m.ending c.args.carrier.now) _ (simp length-take (omega arith)) first.answer _ left _ (simp length-take (omega arith)) m.adds c.args.carrier.now c.fill.new.carrier c.fill-2.new.carrier false first.lacks told.lacks c.args.work.now c.fill-2.new.out payload (sym (simp length-take (omega arith))) (omega arith) told.bytes in
     record {
-      answer = whole_packet c.args.head c.requires.lawful (m.coming c.args.carrier.now) (m.ending c.args.carrier.now) _ (simp length-take (omega arith)) first.answer _ left _ (simp length-take (omega arith)) (told.answer ∙ ap (λ x. fills (m.coming c.fill.new.carrier) x (length (take payload c.args.work.now))) same) _ _ c.fill.new.out first.bytes c.fields-of.result c.fields-of.ensures;
+      answer = whole_packet c.args.head c.requires.lawful (m.coming c.args.carrier.now) (m.ending c.args.carrier.now) _ (simp length-take (omega arith)) first.answer _ left _ (simp length-take (omega arith)) (told.answer ∙ ap (λ x. fills (m.coming c.fill.new.carrier) x (length (take payload c.args.work.now))) same) _ _ c.fill.new.out first.bytes c.fields_of.result c.fields_of.ensures;
       buffer = rest.0;
       lacks = rest.1;
     }

@@ -10,8 +10,8 @@ returns g c =
     let s = c.args.self.now in
     let bs = c.args.bytes.now in
     let at = 4096 - length bs in
-    let came = c.copy-from-slice.ensures.after in
-    let loaded : take (4096 - at) (drop at (put_mid at (4096 - at) s.bytes c.copy-from-slice.new.self)) ≡ bs = put_back s.bytes c.copy-from-slice.new.self at (4096 - at) (omega arith) (omega (arith, ap length came)) ∙ came in
+    let came = c.copy_from_slice.ensures.after in
+    let loaded : take (4096 - at) (drop at (put_mid at (4096 - at) s.bytes c.copy_from_slice.new.self)) ≡ bs = put_back s.bytes c.copy_from_slice.new.self at (4096 - at) (omega arith) (omega (arith, ap length came)) ∙ came in
     record {
       answer = sym (granted (length (held s)) (length bs) (omega arith) (omega (arith, ap length c.loaded.ensures)));
       beneath = refl;

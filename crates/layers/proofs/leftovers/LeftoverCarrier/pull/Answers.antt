@@ -9,8 +9,8 @@ use Rattle.layers.proofs.Loads.{only_beneath, uses_beneath}
 use Rattle.layers.proofs.Stretches.{back_rest}
 use Rattle.layers.proofs.leftovers.LeftoverCarrier.pull.Goals as goal
 
-pub overflow-add-self : goal.overflow-add-self
-overflow-add-self g c =
+pub overflow_add-self : goal.overflow_add-self
+overflow_add-self g c =
     let s = c.args.self.now in
     let have = ap length c.loaded-loaded.ensures ∙ length-take (4096 - s.at) (drop s.at s.bytes) in omega arith
 
@@ -22,7 +22,7 @@ returns g c =
     let w = c.args.out.now in
     let have = ap length c.loaded-loaded.ensures ∙ length-take (4096 - s.at) (drop s.at s.bytes) in
     let many = ap length c.loaded-loaded.ensures in
-    let came : c.copy-from-slice.new.self ≡ take n (held s ++ m.coming s.beneath) = c.copy-from-slice.ensures.after ∙ ap (take (n - 0)) c.loaded-loaded.ensures ∙ ap (λ k. take k (held s)) (omega arith) ∙ sym (take-append-le n (held s) (m.coming s.beneath) (omega arith)) in
+    let came : c.copy_from_slice.new.self ≡ take n (held s ++ m.coming s.beneath) = c.copy_from_slice.ensures.after ∙ ap (take (n - 0)) c.loaded-loaded.ensures ∙ ap (λ k. take k (held s)) (omega arith) ∙ sym (take-append-le n (held s) (m.coming s.beneath) (omega arith)) in
     let t : Leftover _ = record { beneath = s.beneath; bytes = s.bytes; at = s.at + n } in
     let used : Uses m.lacks s n false t = (back_rest s.bytes s.at n 4096 (omega arith), λ no. absurd (false≢true no), subst (λ k. m.lacks s.beneath k false s.beneath) (omega arith) (m.adds.same s.beneath)) in
     let spent = (leftover_adds m.adds).spends s t n false used in
@@ -68,6 +68,6 @@ returns-in-Broken g c =
     let told = c.in-Broken.ensures.answers in
     let none : held s ≡ [] = nil_from_length (held s) (omega (arith, ap length c.loaded-loaded.ensures)) in
     record {
-      answers = (told.0, only_beneath s none (m.coming s.beneath) ∙ told.1, ap passed told.2 ∙ ap Broken (sym c.passed-on.ensures), only_beneath s none (m.coming x) ∙ told.3, ap passed told.4, told.5);
+      answers = (told.0, only_beneath s none (m.coming s.beneath) ∙ told.1, ap passed told.2 ∙ ap Broken (sym c.passed_on.ensures), only_beneath s none (m.coming x) ∙ told.3, ap passed told.4, told.5);
       lacks = uses_beneath s none m.lacks x 0 true c.in-Broken.ensures.lacks;
     }

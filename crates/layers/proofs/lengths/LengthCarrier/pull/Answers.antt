@@ -15,7 +15,7 @@ returns-in-Taken g c =
     let w = c.args.out.now in
     let n = c.in-Taken.n in
     let told = c.in-Taken.ensures.answers in
-    let t : Length _ = record { beneath = c.pull.new.self; left = s.left - n; drawn = c.saturating-add-self.result } in
+    let t : Length _ = record { beneath = c.pull.new.self; left = s.left - n; drawn = c.saturating_add-self.result } in
     let fits = simp length-take at told.1 in
     let used : Uses m.coming m.lacks s n false t = (omega arith, refl, omega arith, λ no. absurd (false≢true no), c.in-Taken.ensures.lacks) in
     let laws = length_adds m.adds in
@@ -46,6 +46,6 @@ returns-in-Broken g c =
     let told = c.in-Broken.ensures.answers in
     let end = ran_out g.C.Carrier.adds c.args.self.now c.pull.new.self _ (omega arith) told.1 told.2 c.in-Broken.ensures.lacks in
     record {
-      answers = (omega arith, end.0, end.1 ∙ ap Broken (sym c.passed-on.ensures), end.2, end.3, put_none c.args.out.now c.pull.new.out (c.min-most.result - 0) (omega arith) told.5);
+      answers = (omega arith, end.0, end.1 ∙ ap Broken (sym c.passed_on.ensures), end.2, end.3, put_none c.args.out.now c.pull.new.out (c.min-most.result - 0) (omega arith) told.5);
       lacks = end.4;
     }

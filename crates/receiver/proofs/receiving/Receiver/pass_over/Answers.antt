@@ -20,7 +20,7 @@ loop-delivered-preserved-in-Delivered g c =
     let told = c.advance-answer.ensures in
     let inv = c.loop-delivered.invariant in
     let is = ap counts (sym told.answer) ∙ sym c.in-Delivered.ensures in
-    (search rules, told.number ∙ inv.1, delivered_turn m.adds c.args.self.now.carrier c.loop-delivered.self.carrier c.advance-answer.new.self.carrier c.loop-delivered.self.standing c.advance-answer.new.self.standing c.loop-delivered.work c.advance-answer.new.work c.loop-delivered.delivered c.loop-delivered.stale inv.2.0 inv.2.1 told.standing told.buffer told.lacks _ inv.2.2 is _ c.saturating-add-delivered.ensures)
+    (search rules, told.number ∙ inv.1, delivered_turn m.adds c.args.self.now.carrier c.loop-delivered.self.carrier c.advance-answer.new.self.carrier c.loop-delivered.self.standing c.advance-answer.new.self.standing c.loop-delivered.work c.advance-answer.new.work c.loop-delivered.delivered c.loop-delivered.stale inv.2.0 inv.2.1 told.standing told.buffer told.lacks _ inv.2.2 is _ c.saturating_add-delivered.ensures)
 
 pub loop-delivered-smaller : goal.loop-delivered-smaller
 loop-delivered-smaller g c =
@@ -36,7 +36,7 @@ loop-delivered-preserved g c =
     let told = c.advance-answer.ensures in
     let inv = c.loop-delivered.invariant in
     let is = ap counts (sym told.answer) ∙ sym c.in-Stale.ensures in
-    (search rules, told.number ∙ inv.1, stale_turn m.adds c.args.self.now.carrier c.loop-delivered.self.carrier c.advance-answer.new.self.carrier c.loop-delivered.self.standing c.advance-answer.new.self.standing c.loop-delivered.work c.advance-answer.new.work c.loop-delivered.delivered c.loop-delivered.stale inv.2.0 inv.2.1 told.standing told.buffer told.lacks _ inv.2.2 is _ c.saturating-add-stale.ensures)
+    (search rules, told.number ∙ inv.1, stale_turn m.adds c.args.self.now.carrier c.loop-delivered.self.carrier c.advance-answer.new.self.carrier c.loop-delivered.self.standing c.advance-answer.new.self.standing c.loop-delivered.work c.advance-answer.new.work c.loop-delivered.delivered c.loop-delivered.stale inv.2.0 inv.2.1 told.standing told.buffer told.lacks _ inv.2.2 is _ c.saturating_add-stale.ensures)
 
 pub returns-in-Other : goal.returns-in-Other
 returns-in-Other g c =

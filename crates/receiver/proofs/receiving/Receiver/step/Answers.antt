@@ -3,9 +3,9 @@ use Rattle.std.proofs.lemmas.Bool.{le-leb, lt-leb}
 use Rattle.receiver.specs.Steps.{work_length}
 use Rattle.receiver.proofs.receiving.Receiver.step.Goals as goal
 
-pub returns-then-work-lt-WORK-LENGTH : goal.returns-then-work-lt-WORK-LENGTH
-returns-then-work-lt-WORK-LENGTH g c =
-    let short = lt-leb work_length (length c.args.work.now) c.if-work-lt-WORK-LENGTH.true in
+pub returns-then-work-lt-WORK_LENGTH : goal.returns-then-work-lt-WORK_LENGTH
+returns-then-work-lt-WORK_LENGTH g c =
+    let short = lt-leb work_length (length c.args.work.now) c.if-work-lt-WORK_LENGTH.true in
     record {
       answer = rw short refl;
       standing = rw short refl;
@@ -16,6 +16,6 @@ returns-then-work-lt-WORK-LENGTH g c =
 
 pub returns : goal.returns
 returns g c =
-    let long = le-leb work_length (length c.args.work.now) c.if-work-lt-WORK-LENGTH.false in
+    let long = le-leb work_length (length c.args.work.now) c.if-work-lt-WORK_LENGTH.false in
     let told = c.advance.ensures in
     record { answer = rw long (ap Ok told.answer); standing = rw long told.standing; number = told.number; buffer = rw long told.buffer; lacks = rw long told.lacks }
