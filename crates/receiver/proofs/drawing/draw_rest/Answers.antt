@@ -9,7 +9,7 @@ returns-in-Short g c =
     let m = g.C.Carrier in
     let told = c.in-Short.ensures in
     let small = fixed_small c.args.head.kind in
-    let cut = short_of_fields c.args.head c.requires.lawful (m.coming c.args.carrier.now) (m.ending c.args.carrier.now) _ (simp length-take (omega arith)) c.in-Short.branch c.in-Short.ending told.answer in
+    let cut = short_of_fields c.args.head c.requires.lawful (m.coming c.args.carrier.now) (m.ending c.args.carrier.now) _ (simp length-take (omega arith)) c.in-Short.came c.in-Short.ending told.answer in
     record {
       answer = cut.0;
       buffer = cut.1 c.args.work.now;
@@ -28,7 +28,7 @@ returns-in-Short-fill g c =
     let payload : ℕ = c.args.head.length - c.fixed_length-fixed.result - 0 in
     let rest = payload_drawn c.args.head c.requires.lawful (m.coming c.args.carrier.now) (m.ending c.args.carrier.now) _ (simp length-take (omega arith)) first.answer _ left _ (simp length-take (omega arith)) m.adds c.args.carrier.now c.fill.new.carrier c.fill-2.new.carrier true first.lacks told.lacks c.args.work.now c.fill-2.new.out payload (sym (simp length-take (omega arith))) (omega arith) told.bytes in
     record {
-      answer = ap (λ x. drawn.Short (4 + x + c.in-Short-fill.branch) c.in-Short-fill.ending) (sym (simp length-take (omega arith))) ∙ short_of_payload c.args.head c.requires.lawful (m.coming c.args.carrier.now) (m.ending c.args.carrier.now) _ (simp length-take (omega arith)) first.answer _ left _ (simp length-take (omega arith)) _ _ (told.answer ∙ ap (λ x. fills (m.coming c.fill.new.carrier) x (length (take payload c.args.work.now))) same);
+      answer = ap (λ x. drawn.Short (4 + x + c.in-Short-fill.came) c.in-Short-fill.ending) (sym (simp length-take (omega arith))) ∙ short_of_payload c.args.head c.requires.lawful (m.coming c.args.carrier.now) (m.ending c.args.carrier.now) _ (simp length-take (omega arith)) first.answer _ left _ (simp length-take (omega arith)) _ _ (told.answer ∙ ap (λ x. fills (m.coming c.fill.new.carrier) x (length (take payload c.args.work.now))) same);
       buffer = rest.0;
       lacks = rest.1;
     }
