@@ -10,7 +10,7 @@ use Rattle.packet.specs.declared.grammar.Position.{Position}
 use Rattle.packet.specs.declared.grammar.StepFault.TheVariants as fault
 use Rattle.packet.specs.declared.grammar.Letter.{Letter}
 use Rattle.packet.specs.declared.grammar.Letter.TheVariants as letter
-use Rattle.packet.specs.Judging.{judged, starts, behind}
+use Rattle.packet.specs.Judging.{judged, starts}
 use Rattle.bodies.specs.Layout.{Laid_out, AllLaid}
 use Rattle.bodies.specs.Grammar.{Body}
 use Rattle.bodies.specs.Told.{completes, headers, from_before, Reached}

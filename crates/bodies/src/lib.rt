@@ -1,4 +1,6 @@
 // What the judgement of packets comes to over whole bodies.
+#![tactic(auto)]
+
 ghost use Rattle.std.specs.Prelude.{◌≡◌, true};
 ghost use Rattle.bodies.specs.Laws.{AcceptsExactlyBodies, FaultsWhereNoBodyGoesOn, Goes_on, LimitAtThe256thHeader};
 

@@ -1,5 +1,7 @@
 // body_list: reads a captured connection from standard input, and lists what a receiver makes of its
 // Play body, one line for each answer.
+#![tactic(auto)]
+
 use listing::list_capture;
 use std::io;
 use std::io::{Read, Write};

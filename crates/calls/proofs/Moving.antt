@@ -1,5 +1,5 @@
 -- Where a run of calls stands among the packets, and what one Step moves.
-use Rattle.std.proofs.Common.{◌≡◌, ℕ, ◌+◌, Bool, true, false, cond, not, ◌&&◌, ◌||◌, List, [], ◌∷◌, ◌++◌, length, drop, is_some, Ok, Option, sym, refl, ap, ◌∙◌, subst, arith}
+use Rattle.std.proofs.Common.{◌≡◌, ℕ, ◌+◌, Bool, true, false, cond, not, ◌&&◌, ◌||◌, List, [], ◌∷◌, ◌++◌, drop, is_some, Ok, Option, sym, refl, ap, ◌∙◌, subst, arith}
 use mathlib.Core.Bool.{and-true, and-false, or-false}
 use Rattle.carrier.specs.declared.Ending.{Ending}
 use Rattle.packet.specs.declared.wire.Packet.{Packet}

@@ -1,5 +1,5 @@
 -- From the runs of calls to the law.
-use Rattle.std.proofs.Common.{◌≡◌, ℕ, Bool, List, length, vec_items, Option, sym, refl, ap, ◌∙◌, subst}
+use Rattle.std.proofs.Common.{◌≡◌, ℕ, Bool, List, length, Option, sym, ap, ◌∙◌, subst}
 use Rattle.carrier.specs.declared.Ending.{Ending}
 use Rattle.packet.specs.declared.grammar.BodyKind.{BodyKind}
 use Rattle.receiver.specs.Steps.{opened, ended}

@@ -4,9 +4,8 @@
 -- last      what is answered behind them: the clean end or the fault
 -- done      the accepted packets that Steps told or Passes passed over so far
 -- todo      the accepted packets that are still to come
-use Rattle.std.specs.Prelude.{◌≡◌, ℕ, ◌+◌, ◌<◌, ◌≤◌, min, Bool, true, false, cond, not, ◌&&◌, List, [], ◌∷◌, ◌++◌, map, length, is_some, Some, None, Option, ◌==◌}
+use Rattle.std.specs.Prelude.{◌≡◌, ℕ, ◌+◌, ◌<◌, ◌≤◌, min, Bool, true, false, cond, not, ◌&&◌, List, [], ◌∷◌, ◌++◌, map, is_some, Some, None, Option, ◌==◌}
 use Rattle.carrier.specs.declared.Ending.{Ending}
-use Rattle.packet.specs.declared.wire.Kind.{Kind}
 use Rattle.packet.specs.declared.wire.Kind.TheVariants as kind
 use Rattle.packet.specs.declared.wire.Packet.{Packet}
 use Rattle.packet.specs.declared.grammar.BodyKind.{BodyKind}

@@ -1,4 +1,6 @@
 // Lists of Steps and Passes made on a receiver, and the law of such runs.
+#![tactic(auto)]
+
 mod making;
 mod replies;
 

@@ -2,6 +2,8 @@
 //
 // A capture is a byte string of three sections, each behind a count of its items in four bytes, the low one first:
 // the lengths of the pieces that the bytes came in, four bytes each; the bytes; and the ending, one byte.
+#![tactic(auto)]
+
 ghost use Rattle.std.specs.Prelude.{◌≡◌, ◌≤◌, true, length, ◌==◌};
 ghost use Rattle.capture.specs.Pieces.{numbers, total, none_empty, to_come};
 

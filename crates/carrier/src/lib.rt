@@ -2,6 +2,8 @@
 //
 // A carrier is known by its meaning alone: the list of bytes to come and the ending behind them.
 // Whatever reads from one is generic over the trait `Carrier`, and rests on its contract only.
+#![tactic(auto)]
+
 ghost use Rattle.std.specs.Prelude.{ℕ, Bool, List};
 ghost use Rattle.carrier.specs.declared.Ending.{Ending};
 ghost use Rattle.carrier.specs.declared.Pulled.{Pulled};

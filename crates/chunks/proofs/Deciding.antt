@@ -9,7 +9,7 @@ use Rattle.chunks.specs.declared.machine.State.TheVariants as state
 use Rattle.chunks.specs.Machine.{next_state, over}
 use Rattle.chunks.specs.Decoding.{state_after, data_in, drawn_in, cut_short, ending_at, ending_in}
 use Rattle.carrier.specs.Passing.{counted, deeper}
-use Rattle.chunks.specs.Splitting.{over_after, drawn_over, drawn_more, drawn_live, drawn_within, behind, split_data, state_after_append, data_in_append}
+use Rattle.chunks.specs.Splitting.{over_after, drawn_over, drawn_more, drawn_live, drawn_within, split_data, state_after_append, data_in_append}
 use Rattle.chunks.specs.Layer.{at_end}
 use Rattle.chunks.specs.Grammar.{Body}
 use Rattle.chunks.specs.Laws.{start, CleanExactly, NoneGoesOn}

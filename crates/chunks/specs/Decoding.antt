@@ -1,5 +1,5 @@
 -- The data and the ending that the bytes beneath come to.
-use Rattle.std.specs.Prelude.{ℕ, zero, suc, ◌+◌, ◌-◌, ◌^◌, min, cond, List, [], ◌∷◌, ◌++◌, length}
+use Rattle.std.specs.Prelude.{ℕ, zero, suc, ◌-◌, cond, List, [], ◌∷◌, ◌++◌, length}
 use Rattle.carrier.specs.declared.Fault.{Fault}
 use Rattle.carrier.specs.declared.Ending.{Ending}
 use Rattle.carrier.specs.declared.Ending.TheVariants.{Clean, Broken}

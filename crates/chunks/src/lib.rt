@@ -10,6 +10,8 @@
 //
 // A fault that it finds (`ChunkCause`) is told with the byte that shows it drawn, and has for its place how many bytes were drawn
 // by then, at most 2^64 - 1. A fault from beneath is passed on with its depth one more, at most 255.
+#![tactic(auto)]
+
 ghost use Rattle.std.specs.Prelude.{◌≡◌};
 ghost use Rattle.chunks.specs.Layer.{data_coming, data_ending, data_lacks, data_adds};
 ghost use Rattle.chunks.specs.Laws.{start, CleanExactly, NoneGoesOn, ExamplesHold};

@@ -1,5 +1,5 @@
 -- The checksum of what a receiver answers.
-use Rattle.std.specs.Prelude.{ℕ, ◌+◌, ◌-◌, ◌*◌, ◌/◌, ◌%◌, ◌^◌, Bool, true, false, cond, List, length, take, Some, None, Option, ◌==◌, slice_index}
+use Rattle.std.specs.Prelude.{ℕ, ◌+◌, ◌-◌, ◌*◌, ◌/◌, ◌%◌, ◌^◌, cond, List, length, take, Some, None, Option, ◌==◌, slice_index}
 use Rattle.carrier.specs.declared.Fault.{Fault}
 use Rattle.packet.specs.declared.wire.Fields.{Fields}
 use Rattle.packet.specs.declared.grammar.Event.{Event}

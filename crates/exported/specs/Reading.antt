@@ -1,5 +1,5 @@
 -- What reading a Play body to its end or fault comes to.
-use Rattle.std.specs.Prelude.{◌≡◌, ℕ, zero, suc, Bool, true, false, cond, List, length, drop, None, nat_le}
+use Rattle.std.specs.Prelude.{ℕ, zero, suc, Bool, true, false, cond, List, length, drop, None, nat_le}
 use Rattle.carrier.specs.declared.Ending.{Ending}
 use Rattle.packet.specs.declared.grammar.BodyKind.TheVariants as body
 use Rattle.receiver.specs.declared.answers.Answer.{Answer}

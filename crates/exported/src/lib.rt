@@ -2,6 +2,8 @@
 //
 // A function answers a checksum of all that the Steps told and of three bytes of each payload, so that its caller can compare it
 // with another decoder's. It is 0 for a work buffer that is too short.
+#![tactic(auto)]
+
 ghost use Rattle.std.specs.Prelude.{◌≡◌, ◌≤◌, length};
 ghost use Rattle.carrier.specs.declared.Ending.TheVariants.{Clean};
 ghost use Rattle.chunks.specs.Decoding.{data_in, ending_in};

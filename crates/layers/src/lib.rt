@@ -1,4 +1,6 @@
 // Layers: carriers that stand over any carrier.
+#![tactic(auto)]
+
 mod leftovers;
 mod lengths;
 

@@ -1,5 +1,5 @@
 -- One line more of a listing.
-use Rattle.std.proofs.Common.{◌≡◌, ℕ, ◌<◌, ◌≤◌, Bool, List, [], ◌++◌, length, drop, Ok, Result, sym, refl, ap, ◌∙◌, subst, append_assoc, append-nil, arith, length-drop}
+use Rattle.std.proofs.Common.{◌≡◌, ℕ, ◌<◌, ◌≤◌, Bool, List, ◌++◌, length, drop, Ok, Result, sym, ap, ◌∙◌, arith, length-drop}
 use Rattle.std.specs.List.{flat_map}
 use Rattle.carrier.specs.declared.Ending.{Ending}
 use Rattle.carrier.specs.Pulls.{Adds}
@@ -10,7 +10,6 @@ use Rattle.receiver.specs.declared.answers.StepRefusal.{StepRefusal}
 use Rattle.receiver.specs.declared.standings.Standing.{Standing}
 use Rattle.receiver.specs.Draws.{used}
 use Rattle.receiver.specs.Steps.{work_length, steps, stepped, step_standing, step_used}
-use Rattle.runs.specs.Answers.{answers_from}
 use Rattle.receiver.proofs.Uses.{event_uses}
 use Rattle.runs.proofs.Stepping.{answers_next, step_answers, step_stands, step_uses}
 use Rattle.listing.specs.Lines.{line_of}

@@ -1,4 +1,6 @@
 // What a technician reads: one line for each answer of a receiver.
+#![tactic(auto)]
+
 mod lines;
 mod listings;
 

@@ -1,5 +1,5 @@
 -- The wire format of a packet, on lists of bytes.
-use Rattle.std.specs.Prelude.{ℕ, ◌+◌, ◌*◌, Bool, true, false, cond, not, List, Some, None, Ok, Err, Option, Result, ◌==◌, nat_le, slice_index}
+use Rattle.std.specs.Prelude.{ℕ, ◌+◌, ◌*◌, Bool, true, cond, List, Some, None, Ok, Err, Option, Result, ◌==◌, nat_le, slice_index}
 use Rattle.packet.specs.declared.wire.Kind.{Kind}
 use Rattle.packet.specs.declared.wire.Kind.TheVariants as kind
 use Rattle.packet.specs.declared.wire.Head.{Head}

@@ -1,4 +1,6 @@
 // Packets of the Windows Media HTTP Streaming Protocol, and the bodies that they make up.
+#![tactic(auto)]
+
 mod grammar;
 mod wire;
 

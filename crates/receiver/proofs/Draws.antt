@@ -1,6 +1,6 @@
 -- The parts of drawing one packet: its fixed fields and its payload.
-use Rattle.std.proofs.Common.{◌≡◌, ℕ, ◌+◌, ◌-◌, ◌<◌, ◌≤◌, min, Bool, true, false, cond, List, [], ◌∷◌, ◌++◌, length, take, drop, Result, sym, refl, ap, ◌∙◌, subst, ⊎_elim, append_assoc, append-nil, arith, length-append, length-drop, take-append-drop, length-take}
-use Rattle.std.proofs.lemmas.List.{drop-drop, drop_all, drop-take, take_all, nil_from_length}
+use Rattle.std.proofs.Common.{◌≡◌, ℕ, ◌+◌, ◌-◌, ◌<◌, ◌≤◌, min, Bool, true, false, List, [], ◌∷◌, ◌++◌, length, take, drop, Result, sym, refl, ap, ◌∙◌, subst, ⊎_elim, append_assoc, append-nil, arith, length-drop, take-append-drop, length-take}
+use Rattle.std.proofs.lemmas.List.{drop-drop, drop_all, drop-take, nil_from_length}
 use Rattle.std.proofs.lemmas.Bool.{le-leb, lt-leb, eqb-true, leb-true, cond-true, cond-false, cases_lt}
 use Rattle.carrier.specs.declared.Ending.{Ending}
 use Rattle.carrier.specs.declared.filling.Filled.TheVariants as filled

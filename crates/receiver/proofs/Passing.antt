@@ -1,5 +1,5 @@
 -- A Pass, one Step at a time.
-use Rattle.std.proofs.Common.{◌≡◌, ℕ, zero, suc, ◌+◌, ◌<◌, ◌≤◌, Bool, false, ◌||◌, List, length, drop, sym, refl, ap, ◌∙◌, subst, arith, length-drop}
+use Rattle.std.proofs.Common.{◌≡◌, ℕ, zero, suc, ◌+◌, ◌<◌, Bool, false, List, length, drop, sym, refl, ap, ◌∙◌, subst, arith, length-drop}
 use Rattle.carrier.specs.declared.Ending.{Ending}
 use Rattle.carrier.specs.Pulls.{Adds}
 use Rattle.packet.specs.declared.grammar.Event.{Event}

@@ -1,5 +1,5 @@
 -- What Open, Step and Close answer, and where they leave a receiver.
-use Rattle.std.specs.Prelude.{◌≡◌, ℕ, ◌+◌, Bool, true, false, cond, ◌&&◌, List, [], length, is_some, Some, None, Ok, Err, Option, Result, ◌==◌, nat_le}
+use Rattle.std.specs.Prelude.{ℕ, ◌+◌, Bool, true, false, cond, ◌&&◌, List, [], is_some, Some, None, Ok, Err, Option, Result, ◌==◌, nat_le}
 use Rattle.carrier.specs.declared.Ending.{Ending}
 use Rattle.carrier.specs.declared.Ending.TheVariants as ending
 use Rattle.carrier.specs.declared.Fault.{Fault}

@@ -2,6 +2,8 @@
 //
 // Open gives a receiver and a ticket, Step answers one event, Pass goes over data packets, and Close takes
 // receiver and ticket and gives back the carrier.
+#![tactic(auto)]
+
 mod answers;
 mod drawing;
 mod receiving;

@@ -1,4 +1,6 @@
 // What a run of Steps comes to, in terms of the grammar of bodies.
+#![tactic(auto)]
+
 ghost use Rattle.std.specs.Prelude.{◌≡◌, true};
 ghost use Rattle.runs.specs.Laws.{EndsCleanExactlyForBodies, FaultsExactlyWhereNoBodyGoesOn, LimitExactlyAtThe256thHeader};
 

@@ -2,6 +2,8 @@
 //
 // A line is a title, which begins with `#`; `capture WORDS..`, an input that may be a capture; `load NUMBERS..`, bytes loaded into a
 // leftover layer; `tickets NUMBER NUMBER`, two bodies closed crosswise; or a case (cases.rt). The words are explained in words.rt.
+#![tactic(auto)]
+
 mod calling;
 mod cases;
 mod refusals;

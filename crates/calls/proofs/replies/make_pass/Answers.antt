@@ -1,4 +1,4 @@
-use Rattle.std.proofs.Common.{◌-◌, ◌++◌, length, take, drop, ap, ◌∙◌, subst}
+use Rattle.std.proofs.Common.{◌-◌, ◌++◌, take, drop, ap, ◌∙◌, subst}
 use Rattle.receiver.specs.Passes.{passed, pass_standing, pass_buffer, pass_used, pass_told}
 use Rattle.calls.specs.Calling.{pass_reply}
 use Rattle.calls.proofs.Lending.{lent, kept}

@@ -1,4 +1,4 @@
-use Rattle.std.proofs.Common.{◌≡◌, ◌++◌, length, is_ok, string_bytes, sym, ap, ◌∙◌, append_assoc, arith, rules}
+use Rattle.std.proofs.Common.{◌++◌, length, is_ok, string_bytes, ap, ◌∙◌, append_assoc, arith, rules}
 use Rattle.std.proofs.ResultArms.{chosen}
 use Rattle.listing.specs.Lines.{line_of}
 use Rattle.listing.specs.Listings.{lines_from}

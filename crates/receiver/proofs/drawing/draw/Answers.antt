@@ -1,4 +1,4 @@
-use Rattle.std.proofs.Common.{◌≡◌, ◌+◌, false, drop, sym, ap, ◌∙◌, subst}
+use Rattle.std.proofs.Common.{◌+◌, false, drop, sym, ap, ◌∙◌, subst}
 use Rattle.receiver.specs.Draws.{rest_drawn, rest_used, rest_front, laid_over, ran_out}
 use Rattle.receiver.proofs.Draws.{head_draws, head_front, head_used, four_used}
 use Rattle.receiver.proofs.drawing.draw.Goals as goal

@@ -1,4 +1,4 @@
-use Rattle.std.proofs.Common.{◌≡◌, ℕ, ◌+◌, ◌-◌, true, false, length, take, sym, ap, ◌∙◌, subst, arith, length-take}
+use Rattle.std.proofs.Common.{ℕ, ◌+◌, ◌-◌, true, false, length, take, sym, ap, ◌∙◌, subst, arith, length-take}
 use Rattle.carrier.specs.Fills.{fills}
 use Rattle.receiver.specs.declared.drawing.Drawn.TheVariants as drawn
 use Rattle.receiver.proofs.Draws.{fixed_small, fixed_fits, short_of_fields, short_of_payload, whole_packet, payload_drawn}

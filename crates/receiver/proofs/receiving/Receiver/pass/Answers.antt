@@ -1,5 +1,5 @@
-use Rattle.std.proofs.Common.{length, Ok, refl, ap}
-use Rattle.std.proofs.lemmas.Bool.{le-leb, lt-leb}
+use Rattle.std.proofs.Common.{length, refl}
+use Rattle.std.proofs.lemmas.Bool.{lt-leb}
 use Rattle.receiver.specs.Steps.{work_length}
 use Rattle.receiver.proofs.receiving.Receiver.pass.Goals as goal
 

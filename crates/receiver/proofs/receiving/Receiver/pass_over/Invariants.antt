@@ -1,4 +1,4 @@
-use Rattle.std.proofs.Common.{◌≡◌, ℕ, false, List, length}
+use Rattle.std.proofs.Common.{◌≡◌, ℕ, false, length}
 use Rattle.receiver.specs.Passes.{passes_from}
 use Rattle.receiver.proofs.receiving.Receiver.pass_over.Given as goal
 
