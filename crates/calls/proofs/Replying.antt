@@ -10,8 +10,8 @@ use Rattle.receiver.specs.declared.answers.Answer.TheVariants as answer
 use Rattle.receiver.specs.declared.answers.Counted.{Counted}
 use Rattle.receiver.specs.declared.answers.Counted.TheVariants as counted
 use Rattle.receiver.specs.declared.answers.Passed.{Passed}
-use Rattle.receiver.specs.declared.answers.StepRefusal.TheVariants as step-refusal
-use Rattle.receiver.specs.declared.answers.PassRefusal.TheVariants as pass-refusal
+use Rattle.receiver.specs.declared.answers.StepRefusal.TheVariants as step_refusal
+use Rattle.receiver.specs.declared.answers.PassRefusal.TheVariants as pass_refusal
 use Rattle.receiver.specs.declared.standings.Standing.{Standing}
 use Rattle.receiver.specs.Draws.{used, laid_over}
 use Rattle.receiver.specs.Steps.{steps, headed, work_length, reading_used, reading_told, reading_front}
@@ -86,7 +86,7 @@ module _ (now : Option ℕ) (e : Ending) (rest : List ℕ) (last : Answer) (size
     abbrev step_called : Bool → Called
     step_called b =
         record {
-          replied = step_reply (cond b (Ok (steps s bs e).answer) (Err step-refusal.ShortWorkBuffer));
+          replied = step_reply (cond b (Ok (steps s bs e).answer) (Err step_refusal.ShortWorkBuffer));
           standing = cond b (steps s bs e).standing s;
           buffer = laid_over (cond b (reading_front s.progress bs) []) (take n w) ++ drop n w;
           used_bytes = cond b (reading_used s.progress bs) 0;
@@ -145,7 +145,7 @@ module _ (now : Option ℕ) (e : Ending) (rest : List ℕ) (last : Answer) (size
     abbrev pass_called : Bool → Bool → Called
     pass_called b h =
         record {
-          replied = pass_reply (cond b (cond h (Ok runs.passed) (Err pass-refusal.NoHeaderInForce)) (Err pass-refusal.ShortWorkBuffer));
+          replied = pass_reply (cond b (cond h (Ok runs.passed) (Err pass_refusal.NoHeaderInForce)) (Err pass_refusal.ShortWorkBuffer));
           standing = cond (b && h) runs.standing s;
           buffer = cond (b && h) runs.buffer (take n w) ++ drop n w;
           used_bytes = cond (b && h) runs.used_bytes 0;

@@ -13,8 +13,8 @@ use Rattle.packet.specs.Judging.{stopped}
 use Rattle.bodies.specs.Told.{events, in_force, told_behind}
 use Rattle.receiver.specs.declared.answers.Answer.{Answer}
 use Rattle.receiver.specs.declared.answers.Answer.TheVariants as answer
-use Rattle.receiver.specs.declared.answers.StepRefusal.TheVariants as step-refusal
-use Rattle.receiver.specs.declared.answers.PassRefusal.TheVariants as pass-refusal
+use Rattle.receiver.specs.declared.answers.StepRefusal.TheVariants as step_refusal
+use Rattle.receiver.specs.declared.answers.PassRefusal.TheVariants as pass_refusal
 use Rattle.receiver.specs.Steps.{work_length}
 use Rattle.runs.specs.Answers.{answers}
 use Rattle.runs.specs.Bytes.{Bytes}
@@ -74,7 +74,7 @@ pub data Told (now : Option ℕ) (last : Answer) (size : ℕ) : (done todo : Lis
   step_refused : {done todo read : List Packet} {over ended : Bool} {cs : List Call} {rs : List Reply} {n : ℕ}
       → min n size < work_length
       → Told now last size done todo over cs rs read ended
-      → Told now last size done todo over (call.Step n ∷ cs) (reply.StepRefused step-refusal.ShortWorkBuffer ∷ rs) read ended
+      → Told now last size done todo over (call.Step n ∷ cs) (reply.StepRefused step_refusal.ShortWorkBuffer ∷ rs) read ended
   packet_told : {done todo read : List Packet} {ended : Bool} {cs : List Call} {rs : List Reply} {n : ℕ} {p : Packet}
       → work_length ≤ min n size
       → Told now last size (done ++ (p ∷ [])) todo false cs rs read ended
@@ -86,12 +86,12 @@ pub data Told (now : Option ℕ) (last : Answer) (size : ℕ) : (done todo : Lis
   pass_refused : {done todo read : List Packet} {over ended : Bool} {cs : List Call} {rs : List Reply} {n : ℕ}
       → min n size < work_length
       → Told now last size done todo over cs rs read ended
-      → Told now last size done todo over (call.Pass n ∷ cs) (reply.PassRefused pass-refusal.ShortWorkBuffer ∷ rs) read ended
+      → Told now last size done todo over (call.Pass n ∷ cs) (reply.PassRefused pass_refusal.ShortWorkBuffer ∷ rs) read ended
   pass_without_header : {done todo read : List Packet} {over ended : Bool} {cs : List Call} {rs : List Reply} {n : ℕ}
       → work_length ≤ min n size
       → passable now last done over ≡ false
       → Told now last size done todo over cs rs read ended
-      → Told now last size done todo over (call.Pass n ∷ cs) (reply.PassRefused pass-refusal.NoHeaderInForce ∷ rs) read ended
+      → Told now last size done todo over (call.Pass n ∷ cs) (reply.PassRefused pass_refusal.NoHeaderInForce ∷ rs) read ended
   passed_to_packet : {done todo read : List Packet} {over ended : Bool} {cs : List Call} {rs : List Reply} {n : ℕ} (passed left : List Packet) (p : Packet)
       → work_length ≤ min n size
       → passable now last done over ≡ true

@@ -1,4 +1,4 @@
-// The receiver for callers in C or Rust: bodies in one stretch of memory, read to their end or fault.
+// Bodies in one stretch of memory, read by a receiver to their end or fault.
 //
 // A function answers a checksum of all that the Steps told and of three bytes of each payload, so that its caller can compare it
 // with another decoder's. It is 0 for a work buffer that is too short.
@@ -8,7 +8,7 @@ ghost use Rattle.std.specs.Prelude.{◌≡◌, ◌≤◌, length};
 ghost use Rattle.carrier.specs.declared.Ending.TheVariants.{Clean};
 ghost use Rattle.chunks.specs.Decoding.{data_in, ending_in};
 ghost use Rattle.chunks.specs.Laws.{start};
-ghost use Rattle.exported.specs.Checksums.{mixed as sum-with, mixed_payload, mixed_fields, mixed_event, mixed_failure};
+ghost use Rattle.exported.specs.Checksums.{mixed as sum_with, mixed_payload, mixed_fields, mixed_event, mixed_failure};
 ghost use Rattle.exported.specs.Reading.{reads_from, play_sum, play_buffer};
 
 use carrier::{Carrier, Fault, Image};
@@ -21,7 +21,7 @@ const WORK_LENGTH: usize = 65_535;
 
 // The checksum with one more number.
 fn mixed(sum: u64, number: u64) -> u64
-    ensures { result ≡ sum-with sum number }
+    ensures { result ≡ sum_with sum number }
 {
     sum.wrapping_mul(0x9E37_79B9_7F4A_7C15).wrapping_add(number)
 }
@@ -126,8 +126,7 @@ fn receive_play_from<C: Carrier + Drop>(carrier: C, work: &mut [u8]) -> u64
 }
 
 // Reads a Play body.
-#[unsafe(no_mangle)]
-pub extern "C" fn receive_play(bytes: &[u8], work: &mut [u8]) -> u64
+pub fn receive_play(bytes: &[u8], work: &mut [u8]) -> u64
     ensures sum { result ≡ play_sum bytes.now Clean work.old }
     ensures buffer { work.new ≡ play_buffer bytes.now Clean work.old }
 {
@@ -135,8 +134,7 @@ pub extern "C" fn receive_play(bytes: &[u8], work: &mut [u8]) -> u64
 }
 
 // Reads a Play body that is sent in chunks.
-#[unsafe(no_mangle)]
-pub extern "C" fn receive_chunked_play(bytes: &[u8], work: &mut [u8]) -> u64
+pub fn receive_chunked_play(bytes: &[u8], work: &mut [u8]) -> u64
     ensures sum { result ≡ play_sum (data_in start bytes.now) (ending_in start 0 bytes.now Clean) work.old }
     ensures buffer { work.new ≡ play_buffer (data_in start bytes.now) (ending_in start 0 bytes.now Clean) work.old }
 {

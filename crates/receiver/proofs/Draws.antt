@@ -14,7 +14,7 @@ use Rattle.packet.specs.declared.wire.Fields.{Fields}
 use Rattle.packet.specs.declared.grammar.StepFault.{StepFault}
 use Rattle.packet.specs.Wire.{fixed, lawful, fields_of, framed, head_of}
 use Rattle.receiver.specs.declared.drawing.Drawn.TheVariants as drawn
-use Rattle.receiver.specs.Draws.{draws, front, used as used-drawing, headed, headed_front, headed_used, rest_drawn, rest_used, rest_front, laid_over}
+use Rattle.receiver.specs.Draws.{draws, front, used as used_drawing, headed, headed_front, headed_used, rest_drawn, rest_used, rest_front, laid_over}
 
 -- a lawful packet has room for its fixed fields, which are at most eight bytes
 pub fixed_fits : (k : Kind) (n : ℕ) → lawful k n ≡ true → fixed k ≤ n
@@ -159,7 +159,7 @@ module _ (bs : List ℕ) (e : Ending) (r : Result Head StepFault) (whole : fille
   pub head_front : front bs ≡ headed_front r (drop 4 bs)
   head_front = cond-true _ _ _ (le-leb 4 (length bs) four) ∙ ap (λ x. headed_front x (drop 4 bs)) head
 
-  pub head_used : used-drawing bs ≡ headed_used r (drop 4 bs)
+  pub head_used : used_drawing bs ≡ headed_used r (drop 4 bs)
   head_used = cond-true _ _ _ (le-leb 4 (length bs) four) ∙ ap (λ x. headed_used x (drop 4 bs)) head
 
   pub four_used : used bs 4 ≡ 4
