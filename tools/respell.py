@@ -4,8 +4,9 @@
 usage: python3 tools/respell.py            at the top of the repository, once, behind the kit's port.py
        python3 tools/respell.py --list     only prints old and new names, and those that would fall together
 
-A name that starts with a capital is a type and is joined in camel case (`Size-line`, `SizeLine`); any other
-has its dashes turned to underscores (`own-fault`, `own_fault`). Left alone are names that Rattle makes (goals,
+A name that starts with a capital is a type and is joined in camel case (`Size-line`, `SizeLine`; and `Laid_out`,
+`LaidOut`, where the kit's script turned the dash); any other has its dashes turned to underscores (`own-fault`,
+`own_fault`). Left alone are names that Rattle makes (goals,
 the parts of a goal), names of the kit's libraries, Rust's own names, strings, inputs and outputs. A label of a
 clause is a Rust identifier, so that its field in an answer is spelled as it stands in src/.
 """
@@ -15,7 +16,7 @@ import re
 import sys
 
 WORD = r"[A-Za-z0-9_'\u00C0-\uFFFF-]"
-TOKEN = re.compile(rf"(?<!{WORD})[A-Za-z]{WORD}*-{WORD}+(?!{WORD})")
+TOKEN = re.compile(rf"(?<!{WORD})[A-Za-z]{WORD}*[_-]{WORD}+(?!{WORD})")
 NAME = r"[A-Za-z][A-Za-z0-9_'-]*"
 MARKS = r"(?:(?:abbrev|pub|unfoldable|pattern|data|record|field)\s+)*"
 SIGNATURE = re.compile(rf"^\s*{MARKS}({NAME}(?:\s+{NAME})*)\s*(?:\{{[^}}]*\}}\s*)?:(?!:)\s*(.*)$")
@@ -65,12 +66,12 @@ def declared():
     for path in files("crates/*/src/**/*.rt"):
         for label in LABEL.findall(read(path)):
             own.add(label.replace("_", "-"))
-    return {n for n in own if "-" in n} - made
+    return {n for n in own if "-" in n or re.match(r"[A-Z][a-z]+_", n)} - made
 
 
 def respelled(name):
     if name[0].isupper():
-        return "".join(w[:1].upper() + w[1:] for w in name.split("-"))
+        return "".join(w[:1].upper() + w[1:] for w in re.split("[_-]", name))
     return name.replace("-", "_")
 
 

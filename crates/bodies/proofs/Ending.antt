@@ -8,12 +8,12 @@ use Rattle.packet.specs.declared.grammar.Position.TheVariants as at
 use Rattle.packet.specs.Judging.{first_and_last, last}
 use Rattle.packet.specs.Wire.{unframed, mark}
 use Rattle.bodies.specs.Grammar.{RunOn, Run, Header, Entry, Groups, Entries, Described}
-use Rattle.bodies.specs.Layout.{ByteString, letter, Notice, Framed, Bare, LaidAs, Laid_out, AllLaid}
+use Rattle.bodies.specs.Layout.{ByteString, letter, Notice, Framed, Bare, LaidAs, LaidOut, AllLaid}
 use Rattle.bodies.proofs.Rest.{Rest}
 use Rattle.bodies.proofs.Ruling.{ByteHeld}
 
 -- the Incarnation of a packet that has bytes is one of them, or 0 where the packet has no such field
-pub incarnation_small : (p : Packet) → Laid_out p → p.fields.incarnation < 256
+pub incarnation_small : (p : Packet) → LaidOut p → p.fields.incarnation < 256
 incarnation_small p (payload, bs, laid, small) = go p.kind laid
   where
     notice : Notice p payload bs → p.fields.incarnation < 256
@@ -42,10 +42,10 @@ a_header i marks = record { kind = kind.Header; length = 8; fields = record { lo
 abbrev an_end : Packet
 an_end = record { kind = kind.EndOfStream; length = 4; fields = unframed 0 }
 
-header_laid : (i marks : ℕ) → i < 256 → marks < 256 → Laid_out (a_header i marks)
+header_laid : (i marks : ℕ) → i < 256 → marks < 256 → LaidOut (a_header i marks)
 header_laid i marks small low = ([], mark ∷ letter kind.Header ∷ 8 ∷ 0 ∷ 0 ∷ 0 ∷ 0 ∷ 0 ∷ i ∷ marks ∷ 8 ∷ 0 ∷ [], (8, 0, 0, 0, 0, 0, i, marks, 8, 0, refl, refl, refl, refl, refl), omega arith)
 
-end_laid : Laid_out an_end
+end_laid : LaidOut an_end
 end_laid = ([], mark ∷ letter kind.EndOfStream ∷ 4 ∷ 0 ∷ 0 ∷ 0 ∷ 0 ∷ 0 ∷ [], (4, 0, 0, 0, 0, 0, refl, refl, refl, refl, refl), omega arith)
 
 at_end : Entries (an_end ∷ [])

@@ -11,10 +11,10 @@ use Rattle.packet.specs.declared.grammar.StepFault.TheVariants as fault
 use Rattle.packet.specs.declared.grammar.Letter.{Letter}
 use Rattle.packet.specs.declared.grammar.Letter.TheVariants as letter
 use Rattle.packet.specs.Judging.{judged, starts}
-use Rattle.bodies.specs.Layout.{Laid_out, AllLaid}
+use Rattle.bodies.specs.Layout.{LaidOut, AllLaid}
 use Rattle.bodies.specs.Grammar.{Body}
 use Rattle.bodies.specs.Told.{completes, headers, from_before, Reached}
-use Rattle.bodies.specs.Laws.{OutOfPlace, FaultsWhereNoBodyGoesOn, Goes_on, LimitAtThe256thHeader}
+use Rattle.bodies.specs.Laws.{OutOfPlace, FaultsWhereNoBodyGoesOn, GoesOn, LimitAtThe256thHeader}
 use Rattle.bodies.proofs.Rest.{Rest, body_is_rest}
 use Rattle.bodies.proofs.Ruling.{ByteHeld, Follows, Ruled, ruled}
 use Rattle.bodies.proofs.Leading.{Leads, Goes, body_ends}
@@ -71,7 +71,7 @@ module _ (b : BodyKind) (before : Option ℕ) (ps : List Packet) (here : Positio
       (next, leads)
 
   abbrev On : Type 0
-  On = (qs : List Packet) × Body b before (ps ++ (p ∷ qs)) × (AllLaid ps → Laid_out p → AllLaid qs)
+  On = (qs : List Packet) × Body b before (ps ++ (p ∷ qs)) × (AllLaid ps → LaidOut p → AllLaid qs)
 
   -- a packet that may come here goes on to a body
   completes_on : (l : Letter) (next : Position) → Follows p p.kind here l next → On
@@ -124,7 +124,7 @@ module _ (b : BodyKind) (before : Option ℕ) (ps : List Packet) (here : Positio
       go (Ruled.passes l next rule c f) = absurd (both_ways (completes p) c counts)
       go (Ruled.counts next rule c f) = rule n ∙ completed_at next n (sym there.stands.count ∙ full)
 
-pub goes_on : Goes_on
+pub goes_on : GoesOn
 goes_on b before ps here n place p way in_place =
     elim (out_or_on b before ps here n place p way) [ inl out ↦ absurd (in_place out) | inr on ↦ on ]
 

@@ -9,7 +9,7 @@ use Rattle.packet.specs.declared.grammar.StepFault.{StepFault}
 use Rattle.packet.specs.declared.grammar.StepFault.TheVariants as fault
 use Rattle.packet.specs.Judging.{judged, starts, entry_limit}
 use Rattle.bodies.specs.Grammar.{Body}
-use Rattle.bodies.specs.Layout.{Laid_out, AllLaid}
+use Rattle.bodies.specs.Layout.{LaidOut, AllLaid}
 use Rattle.bodies.specs.Told.{Accepted, Reached, completes, headers, events}
 
 -- The lists of packets that are accepted are the bodies with at most 255 headers, each told as its events.
@@ -30,12 +30,12 @@ FaultsWhereNoBodyGoesOn =
     → (OutOfPlace (judged p at n) ↔ ((qs : List Packet) × Body b before (ps ++ (p ∷ qs)) → ⊥))
 
 -- Any other packet goes on to a body. Where it and the packets before it have bytes, it does so by packets that have bytes.
-abbrev pub Goes_on : Type 0
-Goes_on =
+abbrev pub GoesOn : Type 0
+GoesOn =
     (b : BodyKind) (before : Option ℕ) (ps : List Packet) (at : Position) (n place : ℕ) (p : Packet)
     → Reached (starts b before) 0 0 ps at n place
     → (OutOfPlace (judged p at n) → ⊥)
-    → (qs : List Packet) × Body b before (ps ++ (p ∷ qs)) × (AllLaid ps → Laid_out p → AllLaid qs)
+    → (qs : List Packet) × Body b before (ps ++ (p ∷ qs)) × (AllLaid ps → LaidOut p → AllLaid qs)
 
 -- The limit is met by the packet that would complete the 256th header of what could go on to a body, and by no other.
 abbrev pub LimitAtThe256thHeader : Type 0

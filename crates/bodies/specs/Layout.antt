@@ -4,11 +4,11 @@ use Rattle.packet.specs.declared.wire.Kind.{Kind}
 use Rattle.packet.specs.declared.wire.Kind.TheVariants as kind
 use Rattle.packet.specs.declared.wire.Packet.{Packet}
 use Rattle.packet.specs.Wire.{mark, le2, le4, unframed}
-use Rattle.std.specs.List.{AllByRecursion as All}
+use Rattle.std.specs.List.{AllByRecursion}
 
 -- each number is a byte
 abbrev pub ByteString : List ℕ → Type 0
-ByteString bs = All (λ b. b < 256) bs
+ByteString bs = AllByRecursion (λ b. b < 256) bs
 
 -- the letter behind the mark
 abbrev pub letter : Kind → ℕ
@@ -61,8 +61,8 @@ abbrev pub Laid : Packet → List ℕ → List ℕ → Type 0
 Laid p payload bs = LaidAs p.kind p payload bs
 
 -- the packet has bytes, and each of the packets has
-abbrev pub Laid_out : Packet → Type 0
-Laid_out p = (payload bs : List ℕ) × Laid p payload bs × ByteString bs
+abbrev pub LaidOut : Packet → Type 0
+LaidOut p = (payload bs : List ℕ) × Laid p payload bs × ByteString bs
 
 abbrev pub AllLaid : List Packet → Type 0
-AllLaid ps = All Laid_out ps
+AllLaid ps = AllByRecursion LaidOut ps

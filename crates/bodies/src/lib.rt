@@ -2,7 +2,7 @@
 #![tactic(auto)]
 
 ghost use Rattle.std.specs.Prelude.{◌≡◌, true};
-ghost use Rattle.bodies.specs.Laws.{AcceptsExactlyBodies, FaultsWhereNoBodyGoesOn, Goes_on, LimitAtThe256thHeader};
+ghost use Rattle.bodies.specs.Laws.{AcceptsExactlyBodies, FaultsWhereNoBodyGoesOn, GoesOn, LimitAtThe256thHeader};
 
 // Always true. Its contract holds the laws of judging the packets of a body one by one: accepted are
 // exactly the bodies, a packet is refused as soon as no body goes on with it, and the limit on
@@ -11,7 +11,7 @@ pub fn bodies_are_judged_right() -> bool
     ensures answer { result ≡ true }
     ensures accepts_exactly_bodies { AcceptsExactlyBodies }
     ensures faults_where_no_body_goes_on { FaultsWhereNoBodyGoesOn }
-    ensures goes_on { Goes_on }
+    ensures goes_on { GoesOn }
     ensures limit_at_the_256th_header { LimitAtThe256thHeader }
 {
     true

@@ -1,6 +1,6 @@
 -- Captures and what the check says of them, worked out from the rules.
 use Rattle.std.specs.Prelude.{◌≡◌, ℕ, List, [], ◌∷◌, Ok, Err, Result}
-use Rattle.std.specs.List.{AllByRecursion as All}
+use Rattle.std.specs.List.{AllByRecursion}
 use Rattle.carrier.specs.declared.Ending.{Ending}
 use Rattle.carrier.specs.declared.Ending.TheVariants.{Clean, Broken}
 use Rattle.capture.specs.declared.sections.CaptureRefusal.{CaptureRefusal}
@@ -47,4 +47,4 @@ examples =
 
 -- the definition says of each what the rules say
 abbrev pub SaysSo : Type 0
-SaysSo = All (λ x. checked x.input ≡ x.says) examples
+SaysSo = AllByRecursion (λ x. checked x.input ≡ x.says) examples

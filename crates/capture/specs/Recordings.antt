@@ -1,6 +1,6 @@
 -- A recorded connection as it is written down, said without reference to how it is checked.
 use Rattle.std.specs.Prelude.{◌≡◌, ℕ, ◌+◌, ◌*◌, ◌<◌, ◌≤◌, ◌↔◌, List, [], ◌∷◌, ◌++◌, length, Ok}
-use Rattle.std.specs.List.{AllByRecursion as All}
+use Rattle.std.specs.List.{AllByRecursion}
 use Rattle.carrier.specs.declared.Ending.{Ending}
 use Rattle.carrier.specs.declared.Ending.TheVariants.{Clean, Broken}
 use Rattle.capture.specs.Pieces.{total}
@@ -37,7 +37,7 @@ pub record Recorded (pieces bytes : List ℕ) (ending : Ending) (input : List �
   pub third_section : Section 1 (mark ∷ []) third
   pub writes : WritesAll pieces lengths
   pub few : length pieces ≤ 4096
-  pub full : All (λ p. 0 < p) pieces
+  pub full : AllByRecursion (λ p. 0 < p) pieces
   pub adds : total pieces ≡ length bytes
   pub marks : Marks mark (length bytes) ending
 

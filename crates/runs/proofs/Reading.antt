@@ -201,8 +201,8 @@ eight_bytes (a ∷ b ∷ c ∷ d ∷ bs) enough =
     (a, b, c, d, i, f, s, t, more, ap (λ x. a ∷ b ∷ c ∷ d ∷ x) is)
 
 -- a packet that is read from a head and the bytes behind it is laid out in them
-abbrev Laid_out : Packet → ℕ → ℕ → List ℕ → Type 0
-Laid_out p l m bs = (payload : List ℕ) × Laid p payload (mark ∷ letter p.kind ∷ l ∷ m ∷ take p.length bs)
+abbrev LaidOut : Packet → ℕ → ℕ → List ℕ → Type 0
+LaidOut p l m bs = (payload : List ℕ) × Laid p payload (mark ∷ letter p.kind ∷ l ∷ m ∷ take p.length bs)
 
 notice_out : (p : Packet) (l m : ℕ) (bs : List ℕ)
     → p.length ≡ 4
@@ -251,7 +251,7 @@ laid_out : (k : Kind) (n l m : ℕ) (bs : List ℕ)
     → le2 l m ≡ n
     → n ≤ length bs
     → sized (packet_of (record { kind = k; length = n }) bs) ≡ true
-    → Laid_out (packet_of (record { kind = k; length = n }) bs) l m bs
+    → LaidOut (packet_of (record { kind = k; length = n }) bs) l m bs
 laid_out kind.StreamChange n l m bs allowed announced enough right = ([], notice_out (packet_of (record { kind = kind.StreamChange; length = n }) bs) l m bs (eqb-true n 4 allowed) announced enough refl)
 laid_out kind.Data n l m bs allowed announced enough right = framed_out (packet_of (record { kind = kind.Data; length = n }) bs) l m bs (leb-true 8 n allowed) announced enough refl (eqb-true _ n right)
 laid_out kind.EndOfStream n l m bs allowed announced enough right = ([], notice_out (packet_of (record { kind = kind.EndOfStream; length = n }) bs) l m bs (eqb-true n 4 allowed) announced enough refl)
