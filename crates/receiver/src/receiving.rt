@@ -1,5 +1,5 @@
 // Open, Step, Pass and Close.
-ghost use Rattle.std.specs.Prelude.{◌≡◌, ◌≤◌, ◌&&◌, length, ◌==◌};
+ghost use Rattle.std.specs.Prelude.{◌≡◌, ◌≤◌, false, ◌&&◌, length, ◌==◌};
 ghost use Rattle.receiver.specs.Draws.{laid_over};
 ghost use Rattle.receiver.specs.Passes.{passes, PassesAs, passed, pass_standing, pass_buffer, pass_used, pass_told};
 ghost use Rattle.receiver.specs.Steps.{opened, ended, steps, stepped, step_standing, step_used, step_told, step_front, reading_used, reading_told, reading_front};
@@ -37,6 +37,7 @@ pub fn open<C: Carrier>(
 ) -> (Receiver<C>, Ticket)
     ensures carrier { result.0.carrier ≡ carrier }
     ensures number { (result.0.number ≡ number) × (result.1.number ≡ number) }
+    ensures unspent { result.1.spent ≡ false }
     ensures standing { result.0.standing ≡ opened body before }
 {
     let receiver = Receiver {
@@ -127,7 +128,7 @@ impl<C: Carrier> Receiver<C> {
 }
 
 // The carrier back, reusable where the clean end was answered and the ticket is this body's.
-pub fn close<C: Carrier>(receiver: Receiver<C>, ticket: Ticket) -> Closed<C>
+pub fn close<C: Carrier>(receiver: Receiver<C>, mut ticket: Ticket) -> Closed<C>
     ensures carrier { result.carrier ≡ receiver.carrier }
     ensures reusable { result.reusable ≡ (ended receiver.standing && receiver.number == ticket.number) }
 {

@@ -1,31 +1,41 @@
 // The ticket of a body: whoever opens a body owes its close.
-ghost use Rattle.std.specs.Prelude.{◌≡◌};
+ghost use Rattle.std.specs.Prelude.{◌≡◌, true, false};
 
 pub struct Ticket {
     number: u32,
+    // whether Close has taken the number
+    spent: bool,
 }
 
-// Nobody can let a ticket go: that would want a proof of what cannot be.
+// Only a spent ticket can be let go, and nobody else has one: Open gives out tickets that are not spent.
 impl Drop for Ticket {
     fn drop(self)
-        requires close_it { ⊥ }
+        requires close_it { self.spent ≡ true }
     {
-        let Ticket { number: _ } = self;
+        let Ticket {
+            number: _,
+            spent: _,
+        } = self;
     }
 }
 
 impl Ticket {
     pub(crate) fn new(number: u32) -> Ticket
-        ensures { result.number ≡ number }
+        ensures number { result.number ≡ number }
+        ensures unspent { result.spent ≡ false }
     {
-        Ticket { number }
+        Ticket {
+            number,
+            spent: false,
+        }
     }
 
     // The one way to be rid of a ticket: Close takes its number.
-    pub(crate) fn spend(self) -> u32
-        ensures { result ≡ self.number }
+    pub(crate) fn spend(&mut self) -> u32
+        ensures number { result ≡ self.old.number }
+        ensures spent { self.new.spent ≡ true }
     {
-        let Ticket { number } = self;
-        number
+        self.spent = true;
+        self.number
     }
 }
