@@ -3,9 +3,8 @@
 
     tools/expected_trials.py < crates/trials/stdin > crates/trials/stdout
 
-A carrier is its meaning: bytes, ending, and how many bytes of the lowest carrier are used once it gave n and told its ending
-or not. An ending is None where it is clean, else (cause, place, depth). A layer makes such a triple of another. In how many
-pieces bytes come has no meaning, so every cut gives the same.
+A carrier is its meaning, a pair of bytes and ending; an ending is None where it is clean, else (cause, place, depth).
+A layer makes such a pair of another. In how many pieces bytes come has no meaning, so every cut gives the same.
 """
 import sys
 
@@ -70,24 +69,20 @@ def given_by(words):
 # --- layers ---
 
 
-def lowest(data, ending):
-    return data, ending, lambda n, told: n
-
-
 def passed_on(ending):
     return ending and (ending[0], ending[1], min(ending[2] + 1, 255))
 
 
 def leftover(carrier, loaded=b""):
-    data, ending, used = carrier
-    return loaded + data, passed_on(ending), lambda n, told: used(max(n - len(loaded), 0), told)
+    data, ending = carrier
+    return loaded + data, passed_on(ending)
 
 
 def length(carrier, count):
-    data, ending, used = carrier
+    data, ending = carrier
     if len(data) >= count:
-        return data[:count], None, lambda n, told: used(n, False)
-    return data, passed_on(ending) or (6, len(data), 0), used
+        return data[:count], None
+    return data, passed_on(ending) or (6, len(data), 0)
 
 
 class Stop(Exception):
@@ -95,18 +90,15 @@ class Stop(Exception):
 
 
 def chunk(carrier):
-    data, ending, used = carrier
+    data, ending = carrier
     at, out = 0, bytearray()
-    behind = [0]  # how many bytes are drawn behind each data byte
-    ran_out = False
 
     def fault(cause):
         raise Stop((cause, at, 0))
 
     def take():
-        nonlocal at, ran_out
+        nonlocal at
         if at == len(data):
-            ran_out = True
             raise Stop(passed_on(ending) or (6, at, 0))
         at += 1
         return data[at - 1 : at]
@@ -136,18 +128,16 @@ def chunk(carrier):
                 fault(5)
             seen += take()
 
-    found = None
     try:
         while (size := size_line()) > 0:
             for _ in range(size):
                 out += take()
-                behind.append(at)
             if take() != b"\r" or take() != b"\n":
                 fault(4)
         trailer()
     except Stop as stop:
-        found = stop.args[0]
-    return bytes(out), found, lambda n, told: used(at, ran_out) if told else used(behind[n], False)
+        return bytes(out), stop.args[0]
+    return bytes(out), None
 
 
 def stacked(stack, count, above, loaded, carrier):
@@ -192,9 +182,8 @@ def number(data):
 
 class Receiver:
     def __init__(self, carrier, body, before):
-        self.data, self.ending, self.used_of_lowest = carrier
+        self.data, self.ending = carrier
         self.place = self.entry = 0
-        self.drawn, self.told = 0, False  # how much of the carrier is used
         self.last = None  # the end or fault that was answered
         self.failed = False
         self.work = bytes(65535)
@@ -224,11 +213,7 @@ class Receiver:
     def has_header(self):
         return not self.failed and self.at in IN_FORCE
 
-    def used(self):
-        return self.used_of_lowest(self.drawn, self.told)
-
     def cut_short(self):
-        self.drawn, self.told = len(self.data), True
         if self.ending:
             return "! 29 %d %d %d %d" % (len(self.data), *self.ending)
         if self.place == len(self.data) and POSITIONS[self.at][3]:
@@ -239,7 +224,6 @@ class Receiver:
         head = self.data[self.place : self.place + 4]
         if len(head) < 4:
             return self.cut_short()
-        self.drawn = self.place + 4
         kind, count = chr(head[1]), number(head[2:])
         if head[0] != 0x24:
             return "! 21 %d" % self.place
@@ -252,7 +236,6 @@ class Receiver:
         self.work = front + self.work[len(front) :]
         if len(rest) < count:
             return self.cut_short()
-        self.drawn = self.place + 4 + count
         return self.judge(kind, count, rest)
 
     def judge(self, kind, count, rest):
@@ -312,7 +295,7 @@ def listing(receiver):
 
 
 def answers_to(receiver, calls):
-    for call in calls.strip("-"):
+    for call in calls:
         if call in "SP":
             yield "? 11"
         elif call == "s":
@@ -353,7 +336,7 @@ def captured(data):
         return 63
     if endings not in (b"\0", b"\1"):
         return 64
-    return lowest(body, (7, len(body), 0) if endings == b"\1" else None)
+    return body, (7, len(body), 0) if endings == b"\1" else None
 
 
 def capture_record(words):
@@ -380,24 +363,7 @@ def load_record(words):
 # --- the table ---
 
 
-def opened(reading, loaded, beneath):
-    _, body, before, stack, count, above = reading
-    carrier = stacked(stack, int(count), int(above), loaded, beneath)
-    return Receiver(carrier, body, None if before == "-" else int(before))
-
-
-def bodies(readings, loaded, data, ending):
-    """The answers of bodies one behind the other, and what is left of the lowest carrier."""
-    for reading in readings:
-        receiver = opened(reading, loaded, lowest(data, ending))
-        yield from answers_to(receiver, reading[0])
-        data = data[receiver.used() :]
-    yield "beneath x.%s %s" % (data.hex(), "broken %d %d %d" % ending if ending else "clean")
-    yield "= all cuts"
-
-
 def record(line):
-    line, *behind = line.split(" | ")
     words = line.split()
     if not words or line.startswith("#"):
         return []
@@ -407,17 +373,19 @@ def record(line):
         return load_record(words[1:])
     if words[0] == "tickets":
         return ["reusable" if words[1] == words[2] else "not reusable"] * 2
-    first, wanted = words[:6], words[0]
+    wanted, body, before, stack, count, above, ending = words[:7]
     loaded, data = given_by(words[7:])
-    ending = (7, len(data), 0) if words[6] == "broken" else None
-    if wanted not in ("every", "once", "tail"):
-        return bodies([first] + [reading.split() for reading in behind], loaded, data, ending)
-    lines = listing(opened(first, loaded, lowest(data, ending)))
+    lowest = data, (7, len(data), 0) if ending == "broken" else None
+    carrier = stacked(stack, int(count), int(above), loaded, lowest)
+    receiver = Receiver(carrier, body, None if before == "-" else int(before))
     if wanted == "every":
-        return lines + ["= all cuts"]
+        return listing(receiver) + ["= all cuts"]
+    if wanted == "once":
+        return listing(receiver)
     if wanted == "tail":
+        lines = listing(receiver)
         return ["%d lines, the last %s" % (len(lines), lines[-1])]
-    return lines
+    return answers_to(receiver, wanted)
 
 
 for line in sys.stdin.read().splitlines():

@@ -1,7 +1,7 @@
 // The answers to single calls of a receiver, one line each.
-use super::cases::Reading;
+use super::cases::Case;
 use anyhow::anyhow;
-use carrier::{Carrier, Ending, Fault, Filled, Image, fill};
+use carrier::{Carrier, Image};
 use listing::line;
 use packet::BodyKind;
 use receiver::{Closed, Receiver, close, open};
@@ -20,7 +20,7 @@ fn step_line<C: Carrier>(
     match receiver.step(work) {
         Ok(answer) => Ok(line(heap, answer)?),
         Err(refusal) => {
-            let number = refusal.number();
+            let number = refusal as u8;
             Ok(format!(in heap; "? {number}\n")?)
         }
     }
@@ -40,7 +40,7 @@ fn pass_line<C: Carrier>(
             Ok(format!(in heap; "{delivered} D {stale} S {answer}")?)
         }
         Err(refusal) => {
-            let number = refusal.number();
+            let number = refusal as u8;
             Ok(format!(in heap; "? {number}\n")?)
         }
     }
@@ -68,7 +68,6 @@ fn call_lines<C: Carrier>(
             b'p' => pass_line(heap, receiver, &mut work)?,
             b'P' => pass_line(heap, receiver, &mut short)?,
             b'w' => work_line(heap, &work)?,
-            b'-' => String::new(heap),
             _ => return Err(anyhow!("an unknown call")),
         };
         text.push_str(more.as_str())?;
@@ -84,56 +83,21 @@ fn reusable_line(reusable: bool) -> &'static str {
     }
 }
 
-// Opens a body, makes the calls and closes it; the answers, and the carrier given back.
+// Opens a body, makes the calls and closes it.
 pub fn answers_to<C: Carrier + Drop>(
     heap: Global,
     carrier: C,
-    reading: &Reading<'_>,
-) -> anyhow::Result<(String, C)> {
-    let (mut receiver, ticket) = open(carrier, reading.body, 0, reading.before);
-    let lines = call_lines(heap, &mut receiver, reading.calls);
-    let Closed { carrier, reusable } = close(receiver, ticket);
+    case: &Case<'_>,
+) -> anyhow::Result<String> {
+    let (mut receiver, ticket) = open(carrier, case.body, 0, case.before);
+    let lines = call_lines(heap, &mut receiver, case.calls);
+    let Closed {
+        carrier: _,
+        reusable,
+    } = close(receiver, ticket);
     let mut text = lines?;
     text.push_str(reusable_line(reusable))?;
-    Ok((text, carrier))
-}
-
-// The bytes in hexadecimal.
-fn hexadecimal(heap: Global, bytes: &[u8]) -> anyhow::Result<String> {
-    let mut text = String::new(heap);
-    for byte in bytes.iter() {
-        let digits = format!(in heap; "{byte:02x}")?;
-        text.push_str(digits.as_str())?;
-    }
     Ok(text)
-}
-
-fn ending_text(heap: Global, ending: Ending) -> anyhow::Result<String> {
-    match ending {
-        Ending::Clean => Ok(format!(in heap; "clean")?),
-        Ending::Broken(fault) => {
-            let Fault {
-                cause,
-                place,
-                depth,
-            } = fault;
-            Ok(format!(in heap; "broken {cause} {place} {depth}")?)
-        }
-    }
-}
-
-// What a carrier still gives: the bytes, and the ending.
-pub fn rest_line<C: Carrier + Drop>(heap: Global, mut carrier: C) -> anyhow::Result<String> {
-    let mut bytes = vec![in heap; 0u8; WORK_LENGTH]?;
-    match fill(&mut carrier, &mut bytes) {
-        Filled::Full => Err(anyhow!("more bytes than are shown")),
-        Filled::Short(count, ending) => {
-            bytes.truncate(count);
-            let digits = hexadecimal(heap, &bytes)?;
-            let ending = ending_text(heap, ending)?;
-            Ok(format!(in heap; "beneath x.{digits} {ending}\n")?)
-        }
-    }
 }
 
 // Reads two empty bodies with these numbers to their clean ends, and closes each with the ticket of the other.

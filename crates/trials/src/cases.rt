@@ -1,4 +1,4 @@
-// A case: which layers stand over what is given, and how the bodies that they give are read.
+// A case: which layers stand over what is given, and how the body that they give is read.
 use anyhow::anyhow;
 use packet::BodyKind;
 
@@ -11,7 +11,7 @@ pub enum Wanted {
     Once,
     // how many lines the listing has, and the last of them
     Tail,
-    // the answers to some calls and what they leave beneath, and that it is the same in whatever pieces the bytes come
+    // the answers to some calls
     Calls,
 }
 
@@ -38,12 +38,10 @@ pub enum Above {
     Two,
 }
 
-// How a body is read.
 #[derive(Clone, Copy)]
-pub struct Reading<'a> {
+pub struct Case<'a> {
     pub wanted: Wanted,
-    // the calls: `s` a Step, `p` a Pass; `S` and `P` with a work buffer that is too short; `w` shows the front of the work buffer;
-    // `-` calls nothing
+    // the calls: `s` a Step, `p` a Pass; `S` and `P` with a work buffer that is too short; `w` shows the front of the work buffer
     pub calls: &'a str,
     pub body: BodyKind,
     pub before: Option<u8>,
@@ -51,13 +49,6 @@ pub struct Reading<'a> {
     // of the length layer
     pub length: u64,
     pub above: Above,
-}
-
-#[derive(Clone, Copy)]
-pub struct Case<'a> {
-    pub wanted: Wanted,
-    // how each body is read, ` | ` between two; behind the first stands what is given
-    pub readings: &'a str,
     // whether the connection is broken off behind the bytes
     pub broken: bool,
     // the bytes, in words
@@ -129,15 +120,16 @@ fn field(text: &str) -> (&str, &str) {
     text.split_once(' ').unwrap_or((text, ""))
 }
 
-// How a body is read, written as `WANTED BODY BEFORE STACK LENGTH ABOVE`, and the text behind it.
-pub fn reading_in<'a>(text: &'a str) -> anyhow::Result<(Reading<'a>, &'a str)> {
+// A case written as `WANTED BODY BEFORE STACK LENGTH ABOVE ENDING WORDS..`.
+pub fn case_in<'a>(text: &'a str) -> anyhow::Result<Case<'a>> {
     let (calls, rest) = field(text);
     let (body, rest) = field(rest);
     let (before, rest) = field(rest);
     let (stack, rest) = field(rest);
     let (length, rest) = field(rest);
     let (above, rest) = field(rest);
-    let reading = Reading {
+    let (ending, words) = field(rest);
+    Ok(Case {
         wanted: wanted_named(calls),
         calls,
         body: body_named(body)?,
@@ -145,18 +137,6 @@ pub fn reading_in<'a>(text: &'a str) -> anyhow::Result<(Reading<'a>, &'a str)> {
         stack: stack_named(stack)?,
         length: length.parse::<u64>()?,
         above: above_named(above)?,
-    };
-    Ok((reading, rest))
-}
-
-// A case written as `READING ENDING WORDS..`, with ` | READING` for each body that is read behind the first.
-pub fn case_in<'a>(text: &'a str) -> anyhow::Result<Case<'a>> {
-    let (alone, _) = text.split_once(" | ").unwrap_or((text, ""));
-    let (first, rest) = reading_in(alone)?;
-    let (ending, words) = field(rest);
-    Ok(Case {
-        wanted: first.wanted,
-        readings: text,
         broken: broken_named(ending)?,
         words,
     })

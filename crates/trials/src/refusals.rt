@@ -22,7 +22,7 @@ fn load_line<C: Carrier>(
     match leftover.load(&bytes) {
         Ok(()) => Ok(format!(in heap; "loaded {count}\n")?),
         Err(refusal) => {
-            let number = refusal.number();
+            let number = refusal as u8;
             Ok(format!(in heap; "? {number}\n")?)
         }
     }

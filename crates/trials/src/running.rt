@@ -1,11 +1,10 @@
 // The record of a case: what comes of it from an image, and from captures cut into pieces.
-use super::calling::rest_line;
-use super::cases::{Case, Wanted, case_in, reading_in};
+use super::cases::{Case, Wanted, case_in};
 use super::stacks::read_stack;
 use super::words::{Given, given_by, push_four};
 use anyhow::anyhow;
 use capture::Capture;
-use carrier::{Carrier, Image};
+use carrier::Image;
 use std::alloc::Global;
 
 // In which pieces a capture has its bytes.
@@ -54,42 +53,6 @@ fn recorded(heap: Global, bytes: &[u8], cut: Cut, broken: bool) -> anyhow::Resul
     Ok(record)
 }
 
-// Reads a body from the lowest carrier, adds its text, and gives back the carrier; a listing has nothing behind it.
-fn read_on<C: Carrier + Drop>(
-    heap: Global,
-    text: &mut String,
-    left: Option<C>,
-    loaded: &[u8],
-    reading: &str,
-) -> anyhow::Result<Option<C>> {
-    let Some(lowest) = left else {
-        return Ok(None);
-    };
-    let (reading, _) = reading_in(reading)?;
-    let (more, left) = read_stack(heap, lowest, loaded, &reading)?;
-    text.push_str(more.as_str())?;
-    Ok(left)
-}
-
-// Reads the bodies of a case, one behind the other, and shows what the lowest carrier still gives.
-fn read_bodies<C: Carrier + Drop>(
-    heap: Global,
-    lowest: C,
-    loaded: &[u8],
-    case: &Case<'_>,
-) -> anyhow::Result<String> {
-    let mut text = String::new(heap);
-    let mut left = Some(lowest);
-    for reading in case.readings.split(" | ") {
-        left = read_on(heap, &mut text, left, loaded, reading)?;
-    }
-    if let Some(lowest) = left {
-        let rest = rest_line(heap, lowest)?;
-        text.push_str(rest.as_str())?;
-    }
-    Ok(text)
-}
-
 // What comes of a case from a capture.
 fn from_capture(heap: Global, given: &Given, cut: Cut, case: &Case<'_>) -> anyhow::Result<String> {
     let record = recorded(heap, &given.bytes, cut, case.broken)?;
@@ -97,7 +60,7 @@ fn from_capture(heap: Global, given: &Given, cut: Cut, case: &Case<'_>) -> anyho
     if capture.check(&record).is_err() {
         return Err(anyhow!("no capture"));
     }
-    read_bodies(heap, capture, &given.loaded, case)
+    read_stack(heap, capture, &given.loaded, case)
 }
 
 // What comes of a case from one piece: an image where the ending is clean.
@@ -105,7 +68,7 @@ fn from_one_piece(heap: Global, given: &Given, case: &Case<'_>) -> anyhow::Resul
     if case.broken {
         return from_capture(heap, given, Cut::Whole, case);
     }
-    read_bodies(heap, Image::new(&given.bytes), &given.loaded, case)
+    read_stack(heap, Image::new(&given.bytes), &given.loaded, case)
 }
 
 // Whether a cut gives the same text.
@@ -158,8 +121,8 @@ pub fn record_of(heap: Global, text: &str) -> anyhow::Result<String> {
     let given = given_by(heap, case.words)?;
     let text = from_one_piece(heap, &given, &case)?;
     match case.wanted {
-        Wanted::Every | Wanted::Calls => with_cuts(heap, &given, &case, text.as_str()),
+        Wanted::Every => with_cuts(heap, &given, &case, text.as_str()),
         Wanted::Tail => tail_of(heap, text.as_str()),
-        Wanted::Once => Ok(text),
+        Wanted::Once | Wanted::Calls => Ok(text),
     }
 }

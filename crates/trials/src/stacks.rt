@@ -1,6 +1,6 @@
-// A body read from one lowest carrier: the layers are put over it, and lifted off again behind the body.
+// The record of a case from one lowest carrier: the layers are put over it, and the body is read.
 use super::calling::answers_to;
-use super::cases::{Above, Reading, Stack, Wanted};
+use super::cases::{Above, Case, Stack, Wanted};
 use anyhow::anyhow;
 use carrier::Carrier;
 use chunks::Chunks;
@@ -8,61 +8,32 @@ use layers::{Leftover, Length};
 use listing::list_body;
 use std::alloc::Global;
 
-// The text of a body, and the carrier as it stands behind the calls; a listing gives none back.
-pub type Told<C> = anyhow::Result<(String, Option<C>)>;
-
 // Reads the body that a carrier gives.
-fn read<C: Carrier + Drop>(heap: Global, carrier: C, reading: &Reading<'_>) -> Told<C> {
-    match reading.wanted {
-        Wanted::Calls => {
-            let (text, carrier) = answers_to(heap, carrier, reading)?;
-            Ok((text, Some(carrier)))
-        }
+fn read<C: Carrier + Drop>(heap: Global, carrier: C, case: &Case<'_>) -> anyhow::Result<String> {
+    match case.wanted {
+        Wanted::Calls => answers_to(heap, carrier, case),
         Wanted::Every | Wanted::Once | Wanted::Tail => {
-            let text = list_body(heap, carrier, reading.body, reading.before)?;
-            Ok((text, None))
+            Ok(list_body(heap, carrier, case.body, case.before)?)
         }
-    }
-}
-
-fn off_chunks<C: Carrier + Drop>(told: Told<Chunks<C>>) -> Told<C> {
-    match told? {
-        (text, Some(layer)) => Ok((text, Some(layer.lift()))),
-        (text, None) => Ok((text, None)),
-    }
-}
-
-fn off_length<C: Carrier + Drop>(told: Told<Length<C>>) -> Told<C> {
-    match told? {
-        (text, Some(layer)) => Ok((text, Some(layer.lift()))),
-        (text, None) => Ok((text, None)),
-    }
-}
-
-fn off_leftover<C: Carrier + Drop>(told: Told<Leftover<C>>) -> Told<C> {
-    match told? {
-        (text, Some(layer)) => Ok((text, Some(layer.lift()))),
-        (text, None) => Ok((text, None)),
     }
 }
 
 // Puts the empty layers above.
-fn read_above<C: Carrier + Drop>(heap: Global, carrier: C, reading: &Reading<'_>) -> Told<C> {
-    match reading.above {
-        Above::Nothing => read(heap, carrier, reading),
-        Above::One => off_leftover(read(heap, Leftover::new(carrier), reading)),
-        Above::Two => {
-            let two = Leftover::new(Leftover::new(carrier));
-            off_leftover(off_leftover(read(heap, two, reading)))
-        }
+fn read_above<C: Carrier + Drop>(
+    heap: Global,
+    carrier: C,
+    case: &Case<'_>,
+) -> anyhow::Result<String> {
+    match case.above {
+        Above::Nothing => read(heap, carrier, case),
+        Above::One => read(heap, Leftover::new(carrier), case),
+        Above::Two => read(heap, Leftover::new(Leftover::new(carrier)), case),
     }
 }
 
-// A leftover layer loaded with these bytes.
-fn loaded_layer<C: Carrier + Drop>(beneath: C, bytes: &[u8]) -> anyhow::Result<Leftover<C>> {
-    let mut leftover = Leftover::new(beneath);
+fn load<C: Carrier>(leftover: &mut Leftover<C>, bytes: &[u8]) -> anyhow::Result<()> {
     match leftover.load(bytes) {
-        Ok(()) => Ok(leftover),
+        Ok(()) => Ok(()),
         Err(_) => Err(anyhow!("bytes that cannot be loaded")),
     }
 }
@@ -72,10 +43,11 @@ fn read_loaded<C: Carrier + Drop>(
     heap: Global,
     beneath: C,
     loaded: &[u8],
-    reading: &Reading<'_>,
-) -> Told<C> {
-    let layer = loaded_layer(beneath, loaded)?;
-    off_leftover(read_above(heap, layer, reading))
+    case: &Case<'_>,
+) -> anyhow::Result<String> {
+    let mut leftover = Leftover::new(beneath);
+    load(&mut leftover, loaded)?;
+    read_above(heap, leftover, case)
 }
 
 // As before, with a chunk layer over the loaded one.
@@ -83,44 +55,37 @@ fn read_chunks_loaded<C: Carrier + Drop>(
     heap: Global,
     beneath: C,
     loaded: &[u8],
-    reading: &Reading<'_>,
-) -> Told<C> {
-    let layer = loaded_layer(beneath, loaded)?;
-    off_leftover(off_chunks(read_above(heap, Chunks::new(layer), reading)))
+    case: &Case<'_>,
+) -> anyhow::Result<String> {
+    let mut leftover = Leftover::new(beneath);
+    load(&mut leftover, loaded)?;
+    read_above(heap, Chunks::new(leftover), case)
 }
 
-fn read_chunks<C: Carrier + Drop>(heap: Global, beneath: C, reading: &Reading<'_>) -> Told<C> {
-    off_chunks(read_above(heap, Chunks::new(beneath), reading))
-}
-
-fn read_length<C: Carrier + Drop>(heap: Global, beneath: C, reading: &Reading<'_>) -> Told<C> {
-    off_length(read_above(heap, Length::new(beneath, reading.length), reading))
-}
-
-// Reads a body through layers over the lowest carrier.
+// Puts the layers of a case over the lowest carrier.
 pub fn read_stack<C: Carrier + Drop>(
     heap: Global,
     lowest: C,
     loaded: &[u8],
-    reading: &Reading<'_>,
-) -> Told<C> {
-    let length = reading.length;
-    match reading.stack {
-        Stack::Bare => read_above(heap, lowest, reading),
-        Stack::Chunk => read_chunks(heap, lowest, reading),
-        Stack::Length => read_length(heap, lowest, reading),
-        Stack::Leftover => read_loaded(heap, lowest, loaded, reading),
+    case: &Case<'_>,
+) -> anyhow::Result<String> {
+    let length = case.length;
+    match case.stack {
+        Stack::Bare => read_above(heap, lowest, case),
+        Stack::Chunk => read_above(heap, Chunks::new(lowest), case),
+        Stack::Length => read_above(heap, Length::new(lowest, length), case),
+        Stack::Leftover => read_loaded(heap, lowest, loaded, case),
         Stack::ChunkOverLength => {
-            off_length(read_chunks(heap, Length::new(lowest, length), reading))
+            read_above(heap, Chunks::new(Length::new(lowest, length)), case)
         }
-        Stack::LengthOverChunk => off_chunks(read_length(heap, Chunks::new(lowest), reading)),
-        Stack::LeftoverOverChunk => {
-            off_chunks(read_loaded(heap, Chunks::new(lowest), loaded, reading))
+        Stack::LengthOverChunk => {
+            read_above(heap, Length::new(Chunks::new(lowest), length), case)
         }
+        Stack::LeftoverOverChunk => read_loaded(heap, Chunks::new(lowest), loaded, case),
         Stack::LeftoverOverLength => {
-            off_length(read_loaded(heap, Length::new(lowest, length), loaded, reading))
+            read_loaded(heap, Length::new(lowest, length), loaded, case)
         }
-        Stack::ChunkOverLeftover => read_chunks_loaded(heap, lowest, loaded, reading),
-        Stack::ChunkOverChunk => off_chunks(read_chunks(heap, Chunks::new(lowest), reading)),
+        Stack::ChunkOverLeftover => read_chunks_loaded(heap, lowest, loaded, case),
+        Stack::ChunkOverChunk => read_above(heap, Chunks::new(Chunks::new(lowest)), case),
     }
 }
