@@ -13,6 +13,7 @@ pub enum StepRefusal {
 }
 
 impl StepRefusal {
+    // The number that it is told by.
     pub fn number(self) -> u8
         ensures { result ≡ step_refusal_number self }
     {
@@ -46,6 +47,7 @@ pub enum PassRefusal {
 }
 
 impl PassRefusal {
+    // The number that it is told by.
     pub fn number(self) -> u8
         ensures { result ≡ pass_refusal_number self }
     {

@@ -7,7 +7,7 @@ pub struct Ticket {
     spent: bool,
 }
 
-// Only a spent ticket can be let go, and nobody else has one: Open gives out tickets that are not spent.
+// Only a spent ticket can be let go. Open gives out tickets that are not spent, and only Close spends one.
 impl Drop for Ticket {
     fn drop(self)
         requires close_it { self.spent ≡ true }
@@ -30,7 +30,7 @@ impl Ticket {
         }
     }
 
-    // The one way to be rid of a ticket: Close takes its number.
+    // The one way to be rid of a ticket: Close takes its number, and may then let it go.
     pub(crate) fn spend(&mut self) -> u32
         ensures number { result ≡ self.old.number }
         ensures spent { self.new.spent ≡ true }
