@@ -2,7 +2,7 @@
 use Rattle.std.specs.Prelude.{◌≡◌, ℕ, ◌+◌, ◌-◌, Bool, true, false, ◌||◌, List, [], length, drop, refl}
 use Rattle.std.proofs.Common.{◌∙◌, ap, length-drop, arith}
 use Rattle.std.proofs.lemmas.List.{drop-drop, drop_all}
-use Rattle.carrier.specs.declared.Ending.{Ending}
+use Rattle.carrier.specs.declared.endings.Ending.{Ending}
 use Rattle.carrier.specs.Pulls.{Adds, Spent}
 
 spent_same : (bs : List ℕ) → Spent bs 0 false bs

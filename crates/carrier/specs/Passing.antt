@@ -1,8 +1,12 @@
 -- How a layer passes on the ending beneath it, and counts what it draws.
 use Rattle.std.specs.Prelude.{ℕ, ◌+◌, ◌-◌, ◌^◌, min}
-use Rattle.carrier.specs.declared.Ending.{Ending}
-use Rattle.carrier.specs.declared.Ending.TheVariants.{Clean, Broken}
-use Rattle.carrier.specs.declared.Fault.{Fault}
+use Rattle.carrier.specs.declared.endings.Ending.{Ending}
+use Rattle.carrier.specs.declared.endings.Ending.TheVariants.{Clean, Broken}
+use Rattle.carrier.specs.declared.endings.Fault.{Fault}
+
+-- a fault that its finder tells: no layer stands above it
+abbrev pub found : ℕ → ℕ → Fault
+found cause place = record { cause = cause; place = place; depth = 0 }
 
 -- a fault from beneath: one layer more stands above its finder; depths stop at 255
 abbrev pub deeper : Fault → Fault

@@ -3,31 +3,25 @@
 -- coming   the body bytes that a carrier is still to give
 -- ending   what stands behind them: a clean end, or a fault
 -- stretch  the memory that a Pull may write to
-use Rattle.std.specs.Prelude.{◌≡◌, ℕ, ◌+◌, ◌<◌, ◌≤◌, Bool, true, false, ◌||◌, List, [], ◌++◌, length, take, drop}
-use Rattle.carrier.specs.declared.Ending.{Ending}
-use Rattle.carrier.specs.declared.Ending.TheVariants.{Clean, Broken}
-use Rattle.carrier.specs.declared.Pulled.{Pulled}
-use Rattle.carrier.specs.declared.Pulled.TheVariants as pulled
+use Rattle.std.specs.Prelude.{◌≡◌, ℕ, ◌+◌, ◌<◌, ◌≤◌, Bool, true, false, ◌||◌, List, [], ◌++◌, length, take, drop, Ok, Err, Result}
+use Rattle.carrier.specs.declared.endings.Ending.{Ending}
 
 -- `Answers bs e w r bs' e' w'`: with bs to come and the ending e, a Pull into the stretch w may answer r, and leaves bs', e' and w'.
 -- How many bytes n it takes is its own choice within these bounds: none for an empty stretch, at least one for any other.
-abbrev pub Answers : List ℕ → Ending → List ℕ → Pulled → List ℕ → Ending → List ℕ → Type 0
-Answers bs e w (pulled.Taken n) bs' e' w' =
+abbrev pub Answers : List ℕ → Ending → List ℕ → Result ℕ Ending → List ℕ → Ending → List ℕ → Type 0
+Answers bs e w (Ok n) bs' e' w' =
     (n ≤ length bs) × (n ≤ length w) × (0 < length w → 0 < n) × (bs' ≡ drop n bs) × (e' ≡ e) × (w' ≡ take n bs ++ drop n w)
-Answers bs e w pulled.Ended bs' e' w' = (0 < length w) × (bs ≡ []) × (e ≡ Clean) × (bs' ≡ []) × (e' ≡ e) × (w' ≡ w)
-Answers bs e w (pulled.Broken f) bs' e' w' = (0 < length w) × (bs ≡ []) × (e ≡ Broken f) × (bs' ≡ []) × (e' ≡ e) × (w' ≡ w)
+Answers bs e w (Err f) bs' e' w' = (0 < length w) × (bs ≡ []) × (e ≡ f) × (bs' ≡ []) × (e' ≡ e) × (w' ≡ w)
 
 -- how many bytes an answer gave
-abbrev pub given : Pulled → ℕ
-given (pulled.Taken n) = n
-given pulled.Ended = 0
-given (pulled.Broken f) = 0
+abbrev pub given : Result ℕ Ending → ℕ
+given (Ok n) = n
+given (Err e) = 0
 
 -- whether it told the ending
-abbrev pub told : Pulled → Bool
-told (pulled.Taken n) = false
-told pulled.Ended = true
-told (pulled.Broken f) = true
+abbrev pub told : Result ℕ Ending → Bool
+told (Ok n) = false
+told (Err e) = true
 
 -- bs' is bs less its first n bytes; and nothing is left where the ending was told
 abbrev pub Spent : List ℕ → ℕ → Bool → List ℕ → Type 0

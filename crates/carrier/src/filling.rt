@@ -2,30 +2,29 @@
 ghost use Rattle.std.specs.Prelude.{◌≡◌, length};
 ghost use Rattle.carrier.specs.Fills.{fills, stretched, used, ran_out};
 
-use super::{Carrier, Ending, Pulled};
+use super::{Carrier, Ending};
 
-// How far it came.
+// The bytes came to an ending before a stretch was full.
 #[derive(Clone, Copy)]
-pub enum Filled {
-    // the stretch is full
-    Full,
-    // the bytes came to this ending after so many
-    Short(usize, Ending),
+pub struct Short {
+    // how many bytes came
+    pub came: usize,
+    pub ending: Ending,
 }
 
-pub fn fill<C: Carrier>(carrier: &mut C, out: &mut [u8]) -> Filled
+pub fn fill<C: Carrier>(carrier: &mut C, out: &mut [u8]) -> Result<(), Short>
     ensures answer { result ≡ fills (C.Carrier.coming carrier.old) (C.Carrier.ending carrier.old) (length out.old) }
     ensures bytes { out.new ≡ stretched (C.Carrier.coming carrier.old) out.old }
     ensures lacks { C.Carrier.lacks carrier.old (used (C.Carrier.coming carrier.old) (length out.old)) (ran_out result) carrier.new }
 {
     let len = out.len();
-    let mut at = 0;
-    while at < len {
-        match carrier.pull(&mut out[at..len]) {
-            Pulled::Taken(n) => at += n,
-            Pulled::Ended => return Filled::Short(at, Ending::Clean),
-            Pulled::Broken(fault) => return Filled::Short(at, Ending::Broken(fault)),
+    let mut came = 0;
+    // each Pull takes as many bytes as it likes, so that no iterator counts them
+    while came < len {
+        match carrier.pull(&mut out[came..len]) {
+            Ok(n) => came += n,
+            Err(ending) => return Err(Short { came, ending }),
         }
     }
-    Filled::Full
+    Ok(())
 }

@@ -4,44 +4,17 @@
 // Whatever reads from one is generic over the trait `Carrier`, and rests on its contract only.
 #![tactic(auto)]
 
-ghost use Rattle.std.specs.Prelude.{ℕ, Bool, List};
-ghost use Rattle.carrier.specs.declared.Ending.{Ending};
-ghost use Rattle.carrier.specs.declared.Pulled.{Pulled};
+ghost use Rattle.std.specs.Prelude.{◌≡◌, ℕ, Bool, List};
+ghost use Rattle.carrier.specs.declared.endings.Ending.{Ending};
 ghost use Rattle.carrier.specs.Pulls.{Answers, Adds, given, told};
 
+mod endings;
 mod filling;
 mod images;
-mod passing;
 
-pub use filling::{Filled, fill};
+pub use endings::{Ending, Fault};
+pub use filling::{Short, fill};
 pub use images::Image;
-pub use passing::passed_on;
-
-// Why a carrier broke off, and where that was found.
-#[derive(Clone, Copy)]
-pub struct Fault {
-    // what went wrong, by its number
-    pub cause: u8,
-    // how many bytes its finder had drawn from beneath, or handed out where nothing is beneath
-    pub place: u64,
-    // how many layers stand above its finder
-    pub depth: u8,
-}
-
-// What stands behind the last byte.
-#[derive(Clone, Copy)]
-pub enum Ending {
-    Clean,
-    Broken(Fault),
-}
-
-// What a Pull answers.
-#[derive(Clone, Copy)]
-pub enum Pulled {
-    Taken(usize),
-    Ended,
-    Broken(Fault),
-}
 
 pub trait Carrier {
     // The body bytes to come, and what stands behind them.
@@ -53,11 +26,23 @@ pub trait Carrier {
     // carrier beneath t lacks exactly what the one above it has used for that.
     ghost lacks: { Self → ℕ → Bool → Self → Type 0 };
 
-    // What holds of `lacks` for every carrier.
-    ghost adds: { Adds coming ending lacks };
-
-    // Puts some of the bytes to come at the front of `out`, or tells the ending where none are to come.
-    fn pull(&mut self, out: &mut [u8]) -> Pulled
+    // Puts some of the bytes to come at the front of `out`, and answers how many (Taken); or tells the ending
+    // where none are to come: a clean one (Ended), or a fault (Broken).
+    fn pull(&mut self, out: &mut [u8]) -> Result<usize, Ending>
         ensures answers { Answers (coming self.old) (ending self.old) out.old result (coming self.new) (ending self.new) out.new }
         ensures lacks { lacks self.old (given result) (told result) self.new };
+
+    // What holds of `lacks` for every carrier.
+    ghost adds: { Adds coming ending lacks };
+}
+
+// A carrier that stands over another one.
+pub trait Layer: Carrier {
+    type Beneath;
+
+    ghost beneath: { Self → Self.Beneath };
+
+    // The carrier beneath, as it stands.
+    fn lift(self) -> Self::Beneath
+        ensures { result ≡ beneath self };
 }
