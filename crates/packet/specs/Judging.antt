@@ -9,15 +9,15 @@ use Rattle.packet.specs.declared.grammar.BodyKind.{BodyKind}
 use Rattle.packet.specs.declared.grammar.BodyKind.TheVariants as body
 use Rattle.packet.specs.declared.grammar.Position.{Position}
 use Rattle.packet.specs.declared.grammar.Position.TheVariants as at
-use Rattle.packet.specs.declared.grammar.StepFault.{StepFault}
-use Rattle.packet.specs.declared.grammar.StepFault.TheVariants as fault
+use Rattle.packet.specs.declared.grammar.PacketFault.{PacketFault}
+use Rattle.packet.specs.declared.grammar.PacketFault.TheVariants as fault
 use Rattle.packet.specs.declared.grammar.Letter.{Letter}
 use Rattle.packet.specs.declared.grammar.Letter.TheVariants as letter
 use Rattle.packet.specs.declared.grammar.Judged.{Judged}
 use Rattle.packet.specs.declared.grammar.Event.{Event}
 
--- what a receiver finds wrong, by its number
-abbrev pub fault_number : StepFault → ℕ
+-- what a packet shows to be wrong, by its number
+abbrev pub fault_number : PacketFault → ℕ
 fault_number fault.Mark = 21
 fault_number fault.Kind = 22
 fault_number fault.PacketLength = 23
@@ -25,8 +25,6 @@ fault_number fault.PacketSize = 24
 fault_number fault.HeaderMarks = 25
 fault_number fault.NotAllowedHere = 26
 fault_number fault.Incarnation = 27
-fault_number fault.EndsEarly = 28
-fault_number fault.CarrierBroke = 29
 fault_number fault.TooManyEntries = 30
 
 -- where a body of a kind begins; the Incarnation from before counts for PlayNext only
@@ -84,30 +82,30 @@ abbrev pub entry_limit : ℕ
 entry_limit = 255
 
 -- the packet is allowed
-abbrev pub told : Letter → Position → ℕ → Result Judged StepFault
+abbrev pub told : Letter → Position → ℕ → Result Judged PacketFault
 told l next entry = Ok (record { letter = l; next = next; entry = entry })
 
 -- the packet completes a header
-abbrev pub completed : Position → ℕ → Result Judged StepFault
+abbrev pub completed : Position → ℕ → Result Judged PacketFault
 completed next entry = cond (entry == entry_limit) (Err fault.TooManyEntries) (told letter.Header next (entry + 1))
 
 -- the packet has the Incarnation of its header, or does not
-abbrev pub agreed : ℕ → ℕ → Result Judged StepFault → Result Judged StepFault
+abbrev pub agreed : ℕ → ℕ → Result Judged PacketFault → Result Judged PacketFault
 agreed inc of r = cond (inc == of) r (Err fault.Incarnation)
 
 -- a $H that opens the run of $H of a header, and one that goes on with it
-abbrev pub begun : Fields → ℕ → Position → Position → ℕ → Result Judged StepFault
+abbrev pub begun : Fields → ℕ → Position → Position → ℕ → Result Judged PacketFault
 begun f of run done entry =
     cond (f.af_flags == first) (agreed f.incarnation of (told letter.Header run entry))
     (cond (f.af_flags == first_and_last) (agreed f.incarnation of (completed done entry)) (Err fault.HeaderMarks))
 
-abbrev pub continued : Fields → ℕ → Position → Position → ℕ → Result Judged StepFault
+abbrev pub continued : Fields → ℕ → Position → Position → ℕ → Result Judged PacketFault
 continued f of run done entry =
     cond (f.af_flags == middle) (agreed f.incarnation of (told letter.Header run entry))
     (cond (f.af_flags == last) (agreed f.incarnation of (completed done entry)) (Err fault.HeaderMarks))
 
 -- a packet's kind at a position
-abbrev pub placed : Kind → Position → Fields → ℕ → Result Judged StepFault
+abbrev pub placed : Kind → Position → Fields → ℕ → Result Judged PacketFault
 placed kind.StreamChange at.Preface f entry = Err fault.NotAllowedHere
 placed kind.StreamChange (at.PrefaceOf of) f entry = Err fault.NotAllowedHere
 placed kind.StreamChange (at.DescribeRun of) f entry = Err fault.NotAllowedHere
@@ -182,7 +180,7 @@ placed kind.PacketPair at.Resuming f entry = Err fault.NotAllowedHere
 placed kind.PacketPair (at.ResumingUnder of) f entry = Err fault.NotAllowedHere
 
 -- whether a packet may come at a position, with so many headers completed before it, and what it then gives
-abbrev pub judged : Packet → Position → ℕ → Result Judged StepFault
+abbrev pub judged : Packet → Position → ℕ → Result Judged PacketFault
 judged p at entry = placed p.kind at p.fields entry
 
 -- places stop at the greatest number of 64 bits

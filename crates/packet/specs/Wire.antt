@@ -5,8 +5,8 @@ use Rattle.packet.specs.declared.wire.Kind.TheVariants as kind
 use Rattle.packet.specs.declared.wire.Head.{Head}
 use Rattle.packet.specs.declared.wire.Fields.{Fields}
 use Rattle.packet.specs.declared.wire.Packet.{Packet}
-use Rattle.packet.specs.declared.grammar.StepFault.{StepFault}
-use Rattle.packet.specs.declared.grammar.StepFault.TheVariants as fault
+use Rattle.packet.specs.declared.grammar.PacketFault.{PacketFault}
+use Rattle.packet.specs.declared.grammar.PacketFault.TheVariants as fault
 
 -- the byte that every packet begins with
 abbrev pub mark : ℕ
@@ -47,12 +47,12 @@ lawful kind.Header n = nat_le 8 n
 lawful kind.Metadata n = nat_le 8 n
 lawful kind.PacketPair n = true
 
-abbrev pub of_kind : Option Kind → ℕ → Result Head StepFault
+abbrev pub of_kind : Option Kind → ℕ → Result Head PacketFault
 of_kind None n = Err fault.Kind
 of_kind (Some k) n = cond (lawful k n) (Ok (record { kind = k; length = n })) (Err fault.PacketLength)
 
 -- the head in the first four bytes, or what is wrong with them
-abbrev pub head_of : List ℕ → Result Head StepFault
+abbrev pub head_of : List ℕ → Result Head PacketFault
 head_of bs = cond (slice_index bs 0 == mark) (of_kind (kind_of (slice_index bs 1)) (le2 (slice_index bs 2) (slice_index bs 3))) (Err fault.Mark)
 
 abbrev pub framed : List ℕ → Fields

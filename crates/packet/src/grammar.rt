@@ -1,6 +1,6 @@
 // The grammar of bodies: which packet may come where, and what it then gives.
 ghost use Rattle.std.specs.Prelude.{◌≡◌};
-ghost use Rattle.packet.specs.Judging.{judged, ends, starts, in_force_at, completed, told as tells};
+ghost use Rattle.packet.specs.Judging.{fault_number, judged, ends, starts, in_force_at, completed, told as tells};
 
 use super::wire::{Fields, Kind, Packet};
 
@@ -36,9 +36,9 @@ pub enum Position {
     ResumingUnder(u8),
 }
 
-// What Step finds wrong, by its number.
+// What a packet shows to be wrong, by its number.
 #[derive(Clone, Copy)]
-pub enum StepFault {
+pub enum PacketFault {
     Mark = 21,
     Kind = 22,
     PacketLength = 23,
@@ -46,9 +46,15 @@ pub enum StepFault {
     HeaderMarks = 25,
     NotAllowedHere = 26,
     Incarnation = 27,
-    EndsEarly = 28,
-    CarrierBroke = 29,
     TooManyEntries = 30,
+}
+
+impl From<PacketFault> for u8 {
+    ghost from_gives = { λ fault number. number ≡ fault_number fault };
+
+    fn from(fault: PacketFault) -> u8 {
+        fault as u8
+    }
 }
 
 // What a packet is told as: its kind, or stale for a $D of another Incarnation than the header in force.
@@ -145,7 +151,7 @@ pub fn in_force(at: Position) -> Option<u8>
 }
 
 // The packet is told by its letter, and the body goes on at `next`.
-fn told(letter: Letter, next: Position, entry: u8) -> Result<Judged, StepFault>
+fn told(letter: Letter, next: Position, entry: u8) -> Result<Judged, PacketFault>
     ensures { result ≡ tells letter next entry }
 {
     Ok(Judged {
@@ -156,25 +162,24 @@ fn told(letter: Letter, next: Position, entry: u8) -> Result<Judged, StepFault>
 }
 
 // The packet completes a header, unless the entry number has reached its limit.
-fn completes(next: Position, entry: u8) -> Result<Judged, StepFault>
+fn completes(next: Position, entry: u8) -> Result<Judged, PacketFault>
     ensures { result ≡ completed next entry }
 {
     if entry == u8::MAX {
-        return Err(StepFault::TooManyEntries);
+        return Err(PacketFault::TooManyEntries);
     }
     told(Letter::Header, next, entry + 1)
 }
 
 // Whether the packet may come at this position, and what it then gives.
-pub fn judge(packet: Packet, at: Position, entry: u8) -> Result<Judged, StepFault>
+pub fn judge(packet: Packet, at: Position, entry: u8) -> Result<Judged, PacketFault>
     ensures { result ≡ judged packet at entry }
 {
     let Fields {
-        location_id: _,
         incarnation,
         af_flags,
-        packet_size: _,
         reason,
+        ..
     } = packet.fields;
     match (packet.kind, at) {
         // a Describe body's $P
@@ -188,14 +193,14 @@ pub fn judge(packet: Packet, at: Position, entry: u8) -> Result<Judged, StepFaul
         (Kind::Metadata, Position::HeaderDue | Position::Resuming | Position::ResumingUnder(_)) =>
             told(Letter::Metadata, Position::MetadataOf(incarnation), entry),
         (Kind::Metadata, Position::PrefaceOf(of) | Position::MetadataOf(of)) if incarnation != of =>
-            { Err(StepFault::Incarnation) }
+            { Err(PacketFault::Incarnation) }
         (Kind::Metadata, Position::PrefaceOf(_) | Position::MetadataOf(_)) => {
             told(Letter::Metadata, at, entry)
         }
         // the first $H of a header
         (Kind::Header, Position::PrefaceOf(of) | Position::MetadataOf(of))
             if (af_flags == FIRST || af_flags == FIRST_AND_LAST) && incarnation != of => {
-            Err(StepFault::Incarnation)
+            Err(PacketFault::Incarnation)
         }
         (Kind::Header, Position::Preface | Position::PrefaceOf(_)) if af_flags == FIRST => {
             told(Letter::Header, Position::DescribeRun(incarnation), entry)
@@ -219,7 +224,7 @@ pub fn judge(packet: Packet, at: Position, entry: u8) -> Result<Judged, StepFaul
         // the later $H of a header
         (Kind::Header, Position::DescribeRun(of) | Position::HeaderRun(of))
             if (af_flags == MIDDLE || af_flags == LAST) && incarnation != of => {
-            Err(StepFault::Incarnation)
+            Err(PacketFault::Incarnation)
         }
         (Kind::Header, Position::DescribeRun(_) | Position::HeaderRun(_)) if af_flags == MIDDLE => {
             told(Letter::Header, at, entry)
@@ -241,7 +246,7 @@ pub fn judge(packet: Packet, at: Position, entry: u8) -> Result<Judged, StepFaul
             | Position::HeaderRun(_)
             | Position::Resuming
             | Position::ResumingUnder(_),
-        ) => Err(StepFault::HeaderMarks),
+        ) => Err(PacketFault::HeaderMarks),
         // an entry's $D and $E
         (Kind::Data, Position::InForce(of) | Position::ResumingUnder(of)) if incarnation == of => {
             told(Letter::Data, Position::InForce(of), entry)
@@ -260,6 +265,6 @@ pub fn judge(packet: Packet, at: Position, entry: u8) -> Result<Judged, StepFaul
             Kind::StreamChange,
             Position::EntryOver | Position::Resuming | Position::ResumingUnder(_),
         ) => told(Letter::StreamChange, Position::HeaderDue, entry),
-        _ => Err(StepFault::NotAllowedHere),
+        _ => Err(PacketFault::NotAllowedHere),
     }
 }

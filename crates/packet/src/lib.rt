@@ -5,6 +5,6 @@ mod grammar;
 mod wire;
 
 pub use grammar::{
-    BodyKind, Event, Judged, Letter, Position, StepFault, in_force, judge, may_end, start,
+    BodyKind, Event, Judged, Letter, PacketFault, Position, in_force, judge, may_end, start,
 };
 pub use wire::{Fields, Head, Kind, Packet, fields_of, fixed_length, read_head, size_agrees};

@@ -1,9 +1,10 @@
 // The wire format of one packet: four bytes of head, the fixed fields of its kind, and the payload.
 // Numbers of several bytes are little-endian.
 ghost use Rattle.std.specs.Prelude.{◌≡◌};
+ghost use Rattle.std.specs.Option.{ok_or};
 ghost use Rattle.packet.specs.Wire.{kind_of, fixed, head_of, lawful, fields_of, sized};
 
-use super::grammar::StepFault;
+use super::grammar::PacketFault;
 
 // The packet kinds, by the letter behind the mark.
 #[derive(Clone, Copy)]
@@ -25,7 +26,7 @@ pub struct Head {
 }
 
 // The header fields, each 0 where the kind lacks it.
-#[derive(Clone, Copy)]
+#[derive(Clone, Copy, Default)]
 pub struct Fields {
     pub location_id: u32,
     pub incarnation: u8,
@@ -43,19 +44,25 @@ pub struct Packet {
 }
 
 // The byte that every packet begins with.
-const MARK: u8 = 0x24;
+const MARK: u8 = b'$';
 
-fn kind_of(letter: u8) -> Option<Kind>
-    ensures { result ≡ kind_of letter }
-{
-    match letter as char {
-        'C' => Some(Kind::StreamChange),
-        'D' => Some(Kind::Data),
-        'E' => Some(Kind::EndOfStream),
-        'H' => Some(Kind::Header),
-        'M' => Some(Kind::Metadata),
-        'P' => Some(Kind::PacketPair),
-        _ => None,
+impl TryFrom<u8> for Kind {
+    ghost use Rattle.packet.specs.declared.grammar.PacketFault.TheVariants as fault;
+
+    type Error = PacketFault;
+
+    ghost try_from_gives = { λ letter r. r ≡ ok_or (kind_of letter) fault.Kind };
+
+    fn try_from(letter: u8) -> Result<Self, PacketFault> {
+        match letter as char {
+            'C' => Ok(Kind::StreamChange),
+            'D' => Ok(Kind::Data),
+            'E' => Ok(Kind::EndOfStream),
+            'H' => Ok(Kind::Header),
+            'M' => Ok(Kind::Metadata),
+            'P' => Ok(Kind::PacketPair),
+            _ => Err(PacketFault::Kind),
+        }
     }
 }
 
@@ -82,19 +89,17 @@ fn lawful_length(kind: Kind, length: u16) -> bool
 }
 
 // Takes the four bytes apart; refuses the mark, then the kind, then PacketLength.
-pub fn read_head(head: [u8; 4]) -> Result<Head, StepFault>
+pub fn read_head(head: [u8; 4]) -> Result<Head, PacketFault>
     ensures { result ≡ head_of head }
 {
     let [mark, letter, low, high] = head;
     if mark != MARK {
-        return Err(StepFault::Mark);
+        return Err(PacketFault::Mark);
     }
-    let Some(kind) = kind_of(letter) else {
-        return Err(StepFault::Kind);
-    };
-    let length = low as u16 + 256 * high as u16;
+    let kind = Kind::try_from(letter)?;
+    let length = u16::from_le_bytes([low, high]);
     if !lawful_length(kind, length) {
-        return Err(StepFault::PacketLength);
+        return Err(PacketFault::PacketLength);
     }
     Ok(Head { kind, length })
 }
@@ -104,29 +109,20 @@ pub fn fields_of(kind: Kind, bytes: [u8; 8]) -> Fields
     ensures { result ≡ fields_of kind bytes }
 {
     let [a, b, c, d, incarnation, af_flags, low, high] = bytes;
-    let number = a as u32 + 256 * b as u32 + 65536 * c as u32 + 16777216 * d as u32;
+    let number = u32::from_le_bytes([a, b, c, d]);
     match kind {
         Kind::StreamChange | Kind::EndOfStream => Fields {
-            location_id: 0,
-            incarnation: 0,
-            af_flags: 0,
-            packet_size: 0,
             reason: number,
+            ..Fields::default()
         },
         Kind::Data | Kind::Header | Kind::Metadata => Fields {
             location_id: number,
             incarnation,
             af_flags,
-            packet_size: low as u16 + 256 * high as u16,
+            packet_size: u16::from_le_bytes([low, high]),
             reason: 0,
         },
-        Kind::PacketPair => Fields {
-            location_id: 0,
-            incarnation: 0,
-            af_flags: 0,
-            packet_size: 0,
-            reason: 0,
-        },
+        Kind::PacketPair => Fields::default(),
     }
 }
 
