@@ -2,8 +2,8 @@
 use Rattle.std.proofs.Common.{◌≡◌, ℕ, zero, suc, ◌*◌, ◌≤◌, Bool, true, false, cond, eqb, ltb, leb, List, [], ◌∷◌, ◌++◌, length, take, drop, Ok, Err, Result, sym, refl, ap, ◌∙◌, subst, arith}
 use Rattle.std.proofs.lemmas.List.{append_assoc, append-nil, take-append-drop, length-take-le, nil_from_length}
 use Rattle.std.proofs.lemmas.Bool.{leb-true, ltb-false, eqb-true, and_parts}
-use Rattle.carrier.specs.declared.Ending.{Ending}
-use Rattle.carrier.specs.declared.Ending.TheVariants.{Clean, Broken}
+use Rattle.carrier.specs.declared.endings.Ending.{Ending}
+use Rattle.carrier.specs.declared.endings.Ending.TheVariants.{Clean, Broken}
 use Rattle.capture.specs.declared.sections.CaptureRefusal.{CaptureRefusal}
 use Rattle.capture.specs.declared.sections.CaptureRefusal.TheVariants.{TooManyPieces, CutShort, PiecesDisagree}
 use Rattle.capture.specs.Pieces.{number, numbers, total, none_empty}
@@ -12,30 +12,27 @@ use Rattle.capture.specs.Captures.{pieced, fault_at, ended, checked}
 use Rattle.capture.specs.Recordings.{Writes, WritesAll, Section, Marks, Recorded}
 use Rattle.capture.proofs.Sums.{none_empty_decides}
 
-refused : {A : Type 0} (e : CaptureRefusal) (a : A) → Err e ≡ Ok a → ⊥
-refused e a h = let z : ◌≡◌ {A = ℕ} 0 1 = cc in omega arith
-
 same : {A : Type 0} (a b : A) → ◌≡◌ {A = Result A CaptureRefusal} (Ok a) (Ok b) → a ≡ b
 same a b h = cc
 
 -- what was accepted went through each step
 bind_ok : {A B : Type 0} (r : Result A CaptureRefusal) (f : A → Result B CaptureRefusal) (b : B) → (r >>= f) ≡ Ok b → (a : A) × (r ≡ Ok a) × (f a ≡ Ok b)
 bind_ok (Ok a) f b h = (a, refl, h)
-bind_ok (Err e) f b h = absurd (refused e b h)
+bind_ok (Err e) f b h = absurd (cc)
 
 unless_ok : {A : Type 0} (t : Bool) (e : CaptureRefusal) (r : Result A CaptureRefusal) (a : A) → cond t (Err e) r ≡ Ok a → (t ≡ false) × (r ≡ Ok a)
-unless_ok true e r a h = absurd (refused e a h)
+unless_ok true e r a h = absurd (cc)
 unless_ok false e r a h = (refl, h)
 
 if_ok : {A : Type 0} (t : Bool) (r : Result A CaptureRefusal) (e : CaptureRefusal) (a : A) → cond t r (Err e) ≡ Ok a → (t ≡ true) × (r ≡ Ok a)
 if_ok true r e a h = (refl, h)
-if_ok false r e a h = absurd (refused e a h)
+if_ok false r e a h = absurd (cc)
 
 counted_ok : (bs : List ℕ) (c : ℕ × List ℕ) → counted bs ≡ Ok c → (count : List ℕ) × (bs ≡ count ++ c.1) × Writes c.0 count
-counted_ok [] c h = absurd (refused _ c h)
-counted_ok (x ∷ []) c h = absurd (refused _ c h)
-counted_ok (x ∷ y ∷ []) c h = absurd (refused _ c h)
-counted_ok (x ∷ y ∷ z ∷ []) c h = absurd (refused _ c h)
+counted_ok [] c h = absurd (cc)
+counted_ok (x ∷ []) c h = absurd (cc)
+counted_ok (x ∷ y ∷ []) c h = absurd (cc)
+counted_ok (x ∷ y ∷ z ∷ []) c h = absurd (cc)
 counted_ok (x ∷ y ∷ z ∷ w ∷ bs) c h =
     let e = same (number x y z w, bs) c h in
     (x ∷ y ∷ z ∷ w ∷ [], ap (λ (d : ℕ × List ℕ). x ∷ y ∷ z ∷ w ∷ d.1) e, (x, y, z, w, refl, sym (ap (λ (d : ℕ × List ℕ). d.0) e)))
@@ -110,11 +107,11 @@ numbers_ok (suc n) (x ∷ y ∷ z ∷ w ∷ bs) h =
     ((x ∷ y ∷ z ∷ w ∷ [], bs, refl, (x, y, z, w, refl, refl), more.0), ap suc more.1)
 
 ended_ok : (es : List ℕ) (n : ℕ) (e : Ending) → ended es n ≡ Ok e → (mark : ℕ) × (es ≡ mark ∷ []) × Marks mark n e
-ended_ok [] n e h = absurd (refused _ e h)
+ended_ok [] n e h = absurd (cc)
 ended_ok (zero ∷ []) n e h = (0, refl, subst (Marks 0 n) (same Clean e h) refl)
 ended_ok (suc zero ∷ []) n e h = (1, refl, subst (Marks 1 n) (same (Broken (fault_at n)) e h) (refl, refl))
-ended_ok (suc (suc x) ∷ []) n e h = absurd (refused _ e h)
-ended_ok (x ∷ y ∷ es) n e h = absurd (refused _ e h)
+ended_ok (suc (suc x) ∷ []) n e h = absurd (cc)
+ended_ok (x ∷ y ∷ es) n e h = absurd (cc)
 
 pub sections_few : (input : List ℕ) (s : List ℕ × List ℕ × List ℕ) → sections input ≡ Ok s → length (numbers s.0) ≤ 4096
 sections_few input s h = let l = sections_ok input s h in let n = numbers_ok l.count s.0 l.fours in omega arith

@@ -1,25 +1,15 @@
 -- The pieces to come, as one is begun and handed out.
-use Rattle.std.proofs.Common.{◌≡◌, ℕ, zero, suc, ◌+◌, ◌-◌, ◌<◌, ◌≤◌, min, true, eqb, ltb, List, [], ◌∷◌, length, take, drop, sym, refl, ap, ◌∙◌, arith, length-drop}
-use native.Mathlib.Nat.{sub-zero}
-use Rattle.std.proofs.lemmas.Bool.{and_parts, ltb-true, eqb-true, lt-ltb, eq-eqb}
-use Rattle.std.proofs.lemmas.List.{nil_from_length, take_rest}
-use Rattle.carrier.specs.declared.Ending.{Ending}
-use Rattle.carrier.specs.declared.Pulled.TheVariants as pulled
-use Rattle.capture.specs.Replays.{less, answer, tells}
+use Rattle.std.proofs.Common.{◌≡◌, ℕ, zero, suc, ◌+◌, ◌-◌, ◌<◌, ◌≤◌, min, true, List, [], ◌∷◌, length, take, drop, w32, Ok, Err, sym, refl, ap, ◌∙◌, arith}
+use Rattle.std.specs.Int.{from_le_bytes}
+use Rattle.carrier.specs.declared.endings.Ending.{Ending}
+use Rattle.capture.specs.Replays.{answer}
+use Rattle.capture.specs.Captures.{pieced}
 use Rattle.capture.specs.Pieces.{numbers, total, none_empty, to_come}
-use Rattle.capture.proofs.Fours.{first, after, numbers_first}
+use Rattle.capture.proofs.Fours.{numbers_first}
 
 pub to_come_some : (n : ℕ) (ps : List ℕ) → 0 < n → to_come n ps ≡ n ∷ ps
 to_come_some zero ps h = absurd (omega arith)
 to_come_some (suc n) ps h = refl
-
-pub total_to_come : (n : ℕ) (ps : List ℕ) → total (to_come n ps) ≡ n + total ps
-total_to_come zero ps = omega arith
-total_to_come (suc n) ps = refl
-
-pub none_empty_to_come : (n : ℕ) (ps : List ℕ) → none_empty (to_come n ps) ≡ none_empty ps
-none_empty_to_come zero ps = refl
-none_empty_to_come (suc n) ps = rw (lt-ltb 0 (suc n) (omega arith))
 
 pub few_to_come : (m n : ℕ) (ps : List ℕ) → m ≤ n → length (to_come m ps) ≤ length (to_come n ps)
 few_to_come zero zero ps h = omega arith
@@ -27,48 +17,31 @@ few_to_come zero (suc n) ps h = omega arith
 few_to_come (suc m) zero ps h = absurd (omega arith)
 few_to_come (suc m) (suc n) ps h = omega arith
 
-pub first_full : (p : ℕ) (ps : List ℕ) → none_empty (p ∷ ps) ≡ true → 0 < p
-first_full p ps h = ltb-true 0 p (and_parts (ltb 0 p) (none_empty ps) h).0
+-- what it means that the pieces to come make up so many bytes
+pub made_up_parts : (n : ℕ) (ps : List ℕ) (size : ℕ) → pieced (to_come n ps) size ≡ true → (none_empty ps ≡ true) × (n + total ps ≡ size)
+made_up_parts zero ps size h = grind arith
+made_up_parts (suc n) ps size h = grind arith
+
+-- what is left of a piece after some of it was handed out
+pub made_up_handed : (left n : ℕ) (ps : List ℕ) (size rest : ℕ) → n ≤ left → rest + n ≡ size → pieced (to_come left ps) size ≡ true → pieced (to_come (left - n) ps) rest ≡ true
+made_up_handed left n ps size rest h r m = let sums = made_up_parts left ps size m in from (left - n) (omega arith)
+  where
+    from : (k : ℕ) → k + total ps ≡ rest → pieced (to_come k ps) rest ≡ true
+    from zero e = grind arith
+    from (suc k) e = grind arith
 
 -- the next piece is not empty, and once begun it is still the first to come
-module _ (left : ℕ) (bs : List ℕ) (n : ℕ) (z : left ≡ 0) (h : 4 ≤ length bs) (e : n ≡ first bs) (full : none_empty (to_come left (numbers bs)) ≡ true) where
-  next : to_come left (numbers bs) ≡ n ∷ numbers (after bs)
-  next = ap (λ m. to_come m (numbers bs)) z ∙ numbers_first bs n h e
+pub begun : (left n size : ℕ) (bs rest : List ℕ) → left ≡ 0 → 4 ≤ length bs → n ≡ from_le_bytes w32 (take 4 bs) → rest ≡ drop 4 bs → pieced (to_come left (numbers bs)) size ≡ true → (0 < n) × (to_come n (numbers rest) ≡ to_come left (numbers bs))
+begun left n size bs rest z h e r made_up =
+    let next : to_come left (numbers bs) ≡ n ∷ numbers rest = ap (λ m. to_come m (numbers bs)) z ∙ numbers_first bs n h e ∙ ap (λ xs. n ∷ numbers xs) (sym r) in
+    let m : pieced (n ∷ numbers rest) size ≡ true = ap (λ ps. pieced ps size) (sym next) ∙ made_up in
+    let full : 0 < n = grind arith in
+    (full, to_come_some n (numbers rest) full ∙ sym next)
 
-  pub next_full : 0 < n
-  next_full = first_full n (numbers (after bs)) (ap none_empty (sym next) ∙ full)
-
-  pub next_begun : to_come n (numbers (after bs)) ≡ to_come left (numbers bs)
-  next_begun = to_come_some n (numbers (after bs)) next_full ∙ sym next
-
-pub less_none : (ps : List ℕ) → none_empty ps ≡ true → ps ≡ less 0 ps
-less_none [] h = refl
-less_none (p ∷ ps) h = sym (rw sub-zero (to_come_some p ps (first_full p ps h)))
-
--- what is left of a piece after some of it was handed out, with the bytes after them
-pub total_handed : (left n : ℕ) (ps bs : List ℕ) → n ≤ left → eqb (total (to_come left ps)) (length bs) ≡ true → eqb (total (to_come (left - n) ps)) (length (take (length bs - n) (drop n bs))) ≡ true
-total_handed left n ps bs h t =
-    let a = eqb-true (total (to_come left ps)) (length bs) t in
-    let b = total_to_come left ps in
-    let d = total_to_come (left - n) ps in
-    let l = ap length (take_rest bs n) ∙ length-drop n bs in
-    eq-eqb _ _ (omega arith)
-
-pub full_handed : (m n : ℕ) (ps : List ℕ) → none_empty (to_come n ps) ≡ true → none_empty (to_come m ps) ≡ true
-full_handed m n ps h = none_empty_to_come m ps ∙ sym (none_empty_to_come n ps) ∙ h
-
--- the piece being handed out has no more bytes than are to come
-pub left_fits : (left : ℕ) (ps bs : List ℕ) → eqb (total (to_come left ps)) (length bs) ≡ true → left ≤ length bs
-left_fits left ps bs h = let e = eqb-true (total (to_come left ps)) (length bs) h in let t = total_to_come left ps in omega arith
-
--- where no piece is to come, no byte is
-pub none_left : (ps bs : List ℕ) → ps ≡ [] → eqb (total ps) (length bs) ≡ true → bs ≡ []
-none_left ps bs e h = nil_from_length bs (sym (eqb-true (total ps) (length bs) h) ∙ ap total e)
-
-pub answer_told : (ps : List ℕ) (e : Ending) (room : ℕ) → ps ≡ [] → 0 < room → answer ps e room ≡ tells e
+pub answer_told : (ps : List ℕ) (e : Ending) (room : ℕ) → ps ≡ [] → 0 < room → answer ps e room ≡ Err e
 answer_told ps e zero q h = absurd (omega arith)
 answer_told ps e (suc room) q h = ap (λ xs. answer xs e (suc room)) q
 
-pub answer_taken : (p : ℕ) (ps : List ℕ) (e : Ending) (room : ℕ) → 0 < room → answer (p ∷ ps) e room ≡ pulled.Taken (min p room)
-answer_taken p ps e zero h = absurd (omega arith)
-answer_taken p ps e (suc room) h = refl
+pub answer_taken : (p : ℕ) (ps : List ℕ) (e : Ending) (room n : ℕ) → 0 < room → n ≡ min room p → answer (p ∷ ps) e room ≡ Ok n
+answer_taken p ps e zero n h m = absurd (omega arith)
+answer_taken p ps e (suc room) n h m = ap Ok (omega arith)

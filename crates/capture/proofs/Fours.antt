@@ -1,22 +1,23 @@
--- Four bytes in front, as a pattern reads them.
-use Rattle.std.proofs.Common.{◌≡◌, ℕ, ◌-◌, ◌≤◌, List, [], ◌∷◌, length, get_or, take, drop, sym, ap, ◌∙◌, arith}
-use Rattle.std.proofs.lemmas.List.{take_rest}
+-- Four bytes in front, and the number that they write.
+use Rattle.std.proofs.Common.{◌≡◌, ℕ, zero, suc, ◌≤◌, ◌/◌, List, [], ◌∷◌, length, take, drop, map, w32, refl, ap, ◌∙◌, arith, length-drop}
+use Rattle.std.specs.Int.{from_le_bytes}
+use Rattle.std.specs.Simd.{first_chunks}
 use Rattle.capture.specs.Pieces.{number, numbers}
 
--- what follows the four
-abbrev pub after : List ℕ → List ℕ
-after bs = take (length bs - 4) (drop 4 bs)
+pub numbers_first : (bs : List ℕ) (n : ℕ) → 4 ≤ length bs → n ≡ from_le_bytes w32 (take 4 bs) → numbers bs ≡ n ∷ numbers (drop 4 bs)
+numbers_first [] n h e = absurd (omega arith)
+numbers_first (a ∷ []) n h e = absurd (omega arith)
+numbers_first (a ∷ b ∷ []) n h e = absurd (omega arith)
+numbers_first (a ∷ b ∷ c ∷ []) n h e = absurd (omega arith)
+numbers_first (a ∷ b ∷ c ∷ d ∷ bs) n h e = let same : number a b c d ≡ n = omega arith in ap (λ m. m ∷ numbers bs) same
 
--- the number that they write
-abbrev pub first : List ℕ → ℕ
-first bs = number (get_or bs 0 0) (get_or bs 1 0) (get_or bs 2 0) (get_or bs 3 0)
-
-pub four_first : (bs : List ℕ) → 4 ≤ length bs → bs ≡ get_or bs 0 0 ∷ get_or bs 1 0 ∷ get_or bs 2 0 ∷ get_or bs 3 0 ∷ after bs
-four_first [] h = absurd (omega arith)
-four_first (a ∷ []) h = absurd (omega arith)
-four_first (a ∷ b ∷ []) h = absurd (omega arith)
-four_first (a ∷ b ∷ c ∷ []) h = absurd (omega arith)
-four_first (a ∷ b ∷ c ∷ d ∷ bs) h = ap (λ ys. a ∷ b ∷ c ∷ d ∷ ys) (sym (take_rest (a ∷ b ∷ c ∷ d ∷ bs) 4))
-
-pub numbers_first : (bs : List ℕ) (n : ℕ) → 4 ≤ length bs → n ≡ first bs → numbers bs ≡ n ∷ numbers (after bs)
-numbers_first bs n h e = ap numbers (four_first bs h) ∙ ap (λ m. m ∷ numbers (after bs)) (sym e)
+-- all of them
+pub numbers_all : (k : ℕ) (bs : List ℕ) → k ≡ length bs / 4 → numbers bs ≡ map (from_le_bytes w32) (first_chunks 4 k bs)
+numbers_all zero [] h = refl
+numbers_all zero (a ∷ []) h = refl
+numbers_all zero (a ∷ b ∷ []) h = refl
+numbers_all zero (a ∷ b ∷ c ∷ []) h = refl
+numbers_all zero (a ∷ b ∷ c ∷ d ∷ bs) h = absurd (omega arith)
+numbers_all (suc k) bs h =
+    numbers_first bs (from_le_bytes w32 (take 4 bs)) (omega arith) refl
+    ∙ ap (λ ps. from_le_bytes w32 (take 4 bs) ∷ ps) (numbers_all k (drop 4 bs) (omega (arith, length-drop 4 bs)))

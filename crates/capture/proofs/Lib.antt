@@ -3,4 +3,3 @@ mod Sums
 mod Coming
 mod Accepted
 mod Recording
-mod Told

@@ -1,8 +1,8 @@
 -- Captures and what the check says of them, worked out from the rules.
 use Rattle.std.specs.Prelude.{◌≡◌, ℕ, List, [], ◌∷◌, Ok, Err, Result}
 use Rattle.std.specs.List.{AllByRecursion}
-use Rattle.carrier.specs.declared.Ending.{Ending}
-use Rattle.carrier.specs.declared.Ending.TheVariants.{Clean, Broken}
+use Rattle.carrier.specs.declared.endings.Ending.{Ending}
+use Rattle.carrier.specs.declared.endings.Ending.TheVariants.{Clean, Broken}
 use Rattle.capture.specs.declared.sections.CaptureRefusal.{CaptureRefusal}
 use Rattle.capture.specs.declared.sections.CaptureRefusal.TheVariants.{TooManyPieces, CutShort, PiecesDisagree, BadEnding}
 use Rattle.capture.specs.Captures.{checked}

@@ -1,29 +1,28 @@
 // Whether a byte string is a capture.
 ghost use Rattle.std.specs.Prelude.{◌≡◌, [], Ok, Err};
-ghost use Rattle.carrier.specs.declared.Ending.TheVariants.{Clean};
+ghost use Rattle.carrier.specs.declared.endings.Ending.TheVariants.{Clean};
 ghost use Rattle.capture.specs.Pieces.{numbers};
 ghost use Rattle.capture.specs.Examples.{SaysSo};
 ghost use Rattle.capture.specs.Recordings.{AcceptsExactlyCaptures};
-ghost use Rattle.capture.specs.Replays.{held, carried};
+ghost use Rattle.capture.specs.Replays.{held, carried, Holds, Carries};
 ghost use Rattle.capture.specs.Captures.{pieced, ended, checked, captured};
 
 use super::Capture;
-use super::sections::{CaptureCause, CaptureRefusal, Sections, number_of, read_sections};
+use super::sections::{CaptureCause, CaptureRefusal, Sections, read_sections};
 use carrier::{Ending, Fault};
 
 // Whether the pieces are none of them empty, and make up so many bytes.
 fn make_up(lengths: &[u8], count: usize) -> bool
     ensures { result ≡ pieced (numbers lengths.now) count }
 {
+    let (pieces, _) = lengths.as_chunks::<4>();
     let mut left = count;
-    let mut rest = lengths;
-    while let [a, b, c, d, after @ ..] = rest {
-        let piece = number_of(*a, *b, *c, *d) as usize;
+    for piece in pieces {
+        let piece = u32::from_le_bytes(*piece) as usize;
         if piece == 0 || piece > left {
             return false;
         }
         left -= piece;
-        rest = after;
     }
     left == 0
 }
@@ -34,11 +33,7 @@ fn read_ending(endings: &[u8], count: usize) -> Result<Ending, CaptureRefusal>
 {
     match endings {
         [0] => Ok(Ending::Clean),
-        [1] => Ok(Ending::Broken(Fault {
-            cause: CaptureCause::LineBroke as u8,
-            place: count as u64,
-            depth: 0,
-        })),
+        [1] => Ok(Ending::Broken(Fault::found(CaptureCause::LineBroke as u8, count as u64))),
         _ => Err(CaptureRefusal::BadEnding),
     }
 }
@@ -57,11 +52,27 @@ impl<'a> Capture<'a> {
     }
 
     // Takes up the input where it is a capture; otherwise says why it is none, and stays as it was.
-    // It does so in place: a `Result` that held a capture, which borrows and has an invariant, would have no generated proof here or at any caller.
     pub fn check(&mut self, input: &'a [u8]) -> Result<(), CaptureRefusal>
         ensures holds { elim result [ Ok _ ↦ checked input.now ≡ Ok (held self.new) | Err e ↦ checked input.now ≡ Err e ] }
         ensures carries { elim result [ Ok _ ↦ captured input.now ≡ Ok (carried self.new) | Err e ↦ captured input.now ≡ Err e ] }
         ensures kept { elim result [ Ok _ ↦ Unit {0} | Err e ↦ self.new ≡ self.old ] }
+        ensures accepts_exactly_captures { AcceptsExactlyCaptures }
+        ensures examples { SaysSo }
+    {
+        *self = Capture::try_from(input)?;
+        Ok(())
+    }
+}
+
+// The capture that a byte string is, or why it is none.
+impl<'a> TryFrom<&'a [u8]> for Capture<'a> {
+    type Error = CaptureRefusal;
+
+    ghost try_from_gives = { λ input read. Holds input.now read × Carries input.now read };
+
+    fn try_from(input: &'a [u8]) -> Result<Capture<'a>, CaptureRefusal>
+        ensures holds { Holds input.now result }
+        ensures carries { Carries input.now result }
         ensures accepts_exactly_captures { AcceptsExactlyCaptures }
         ensures examples { SaysSo }
     {
@@ -74,12 +85,11 @@ impl<'a> Capture<'a> {
             return Err(CaptureRefusal::PiecesDisagree);
         }
         let ending = read_ending(endings, bytes.len())?;
-        *self = Capture {
+        Ok(Capture {
             lengths,
             left: 0,
             bytes,
             ending,
-        };
-        Ok(())
+        })
     }
 }

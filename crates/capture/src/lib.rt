@@ -4,8 +4,9 @@
 // the lengths of the pieces that the bytes came in, four bytes each; the bytes; and the ending, one byte.
 #![tactic(auto)]
 
-ghost use Rattle.std.specs.Prelude.{◌≡◌, ◌≤◌, true, length, ◌==◌};
-ghost use Rattle.capture.specs.Pieces.{numbers, total, none_empty, to_come};
+ghost use Rattle.std.specs.Prelude.{◌≡◌, ◌≤◌, true, length};
+ghost use Rattle.capture.specs.Pieces.{numbers, to_come};
+ghost use Rattle.capture.specs.Captures.{pieced};
 
 use carrier::Ending;
 
@@ -28,6 +29,5 @@ pub struct Capture<'a> {
     ending: Ending,
     // at most 4,096 pieces are to come, none of them empty, and they make up the bytes to come
     ghost few: { length (to_come left (numbers lengths.now)) ≤ 4096 },
-    ghost full: { none_empty (to_come left (numbers lengths.now)) ≡ true },
-    ghost adds: { (total (to_come left (numbers lengths.now)) == length bytes.now) ≡ true },
+    ghost made_up: { pieced (to_come left (numbers lengths.now)) (length bytes.now) ≡ true },
 }

@@ -6,8 +6,7 @@ ghost use Rattle.capture.specs.declared.Capture.{Capture};
 ghost use Rattle.capture.specs.Replays.{pieces, held, answer, less};
 
 use super::Capture;
-use super::sections::number_of;
-use carrier::{Carrier, Ending, Pulled};
+use carrier::{Carrier, Ending};
 
 impl Capture<'_> {
     // Begins the next piece where none is being handed out.
@@ -15,11 +14,11 @@ impl Capture<'_> {
         ensures same { held self.new ≡ held self.old }
         ensures begun { self.new.left ≡ 0 → pieces self.new ≡ [] }
     {
-        if self.left == 0 {
-            if let [a, b, c, d, rest @ ..] = self.lengths {
-                self.left = number_of(*a, *b, *c, *d);
-                self.lengths = rest;
-            }
+        if self.left == 0
+            && let Some((piece, rest)) = self.lengths.split_first_chunk::<4>()
+        {
+            self.left = u32::from_le_bytes(*piece);
+            self.lengths = rest;
         }
     }
 }
@@ -31,9 +30,7 @@ impl Carrier for Capture<'_> {
 
     ghost lacks = { Alone {S = Capture} (λ s. s.bytes.now) (λ s. s.ending) };
 
-    ghost adds = { alone_adds {S = Capture} (λ s. s.bytes.now) (λ s. s.ending) };
-
-    fn pull(&mut self, out: &mut [u8]) -> Pulled
+    fn pull(&mut self, out: &mut [u8]) -> Result<usize, Ending>
         ensures answers { Answers self.old.bytes.now self.old.ending out.old result self.new.bytes.now self.new.ending out.new }
         ensures lacks { Alone {S = Capture} (λ s. s.bytes.now) (λ s. s.ending) self.old (given result) (told result) self.new }
         ensures one_piece { result ≡ answer (pieces self.old) self.old.ending (length out.old) }
@@ -41,19 +38,19 @@ impl Carrier for Capture<'_> {
     {
         let room = out.len();
         if room == 0 {
-            return Pulled::Taken(0);
+            return Ok(0);
         }
         self.begin();
         if self.left == 0 {
-            return match self.ending {
-                Ending::Clean => Pulled::Ended,
-                Ending::Broken(fault) => Pulled::Broken(fault),
-            };
+            return Err(self.ending);
         }
         let n = room.min(self.left as usize);
-        out[0..n].copy_from_slice(&self.bytes[0..n]);
-        self.bytes = &self.bytes[n..];
+        let (taken, rest) = self.bytes.split_at(n);
+        out[..n].copy_from_slice(taken);
+        self.bytes = rest;
         self.left -= n as u32;
-        Pulled::Taken(n)
+        Ok(n)
     }
+
+    ghost adds = { alone_adds {S = Capture} (λ s. s.bytes.now) (λ s. s.ending) };
 }

@@ -1,7 +1,7 @@
 // The sections of a capture, each behind a count of its items.
 ghost use Rattle.std.specs.Prelude.{◌≡◌, Ok, Err};
-ghost use Rattle.capture.specs.Pieces.{number};
 ghost use Rattle.capture.specs.Sections.{counted, parted, section, sections};
+ghost use Rattle.capture.specs.Captures.{refusal_number};
 
 // Why a byte string is no capture.
 #[derive(Clone, Copy)]
@@ -14,6 +14,15 @@ pub enum CaptureRefusal {
     PiecesDisagree = 63,
     // there is not one ending, or it is neither clean nor broken
     BadEnding = 64,
+}
+
+// The number that a refusal is told by.
+impl From<CaptureRefusal> for u8 {
+    ghost from_gives = { λ refusal number. number ≡ refusal_number refusal };
+
+    fn from(refusal: CaptureRefusal) -> u8 {
+        refusal as u8
+    }
 }
 
 // What a capture finds wrong when it is replayed.
@@ -32,35 +41,25 @@ pub(crate) struct Sections<'a> {
     pub(crate) endings: &'a [u8],
 }
 
-// The number that four bytes write, the low one first.
-pub(crate) fn number_of(a: u8, b: u8, c: u8, d: u8) -> u32
-    ensures { result ≡ number a b c d }
-{
-    a as u32 + 256 * b as u32 + 65536 * c as u32 + 16777216 * d as u32
-}
-
 // A count, and what follows it.
-fn read_count<'a>(input: &'a [u8]) -> Result<(u32, &'a [u8]), CaptureRefusal>
+fn read_count(input: &[u8]) -> Result<(u32, &[u8]), CaptureRefusal>
     ensures { elim result [ Ok s ↦ counted input.now ≡ Ok (s.0, s.1.now) | Err e ↦ counted input.now ≡ Err e ] }
 {
-    match input {
-        [a, b, c, d, rest @ ..] => Ok((number_of(*a, *b, *c, *d), rest)),
-        _ => Err(CaptureRefusal::CutShort),
-    }
+    let (count, rest) = input
+        .split_first_chunk::<4>()
+        .ok_or(CaptureRefusal::CutShort)?;
+    Ok((u32::from_le_bytes(*count), rest))
 }
 
 // The first so many bytes, and what follows them.
-fn part<'a>(input: &'a [u8], size: usize) -> Result<(&'a [u8], &'a [u8]), CaptureRefusal>
+fn part(input: &[u8], size: usize) -> Result<(&[u8], &[u8]), CaptureRefusal>
     ensures { elim result [ Ok s ↦ parted size input.now ≡ Ok (s.0.now, s.1.now) | Err e ↦ parted size input.now ≡ Err e ] }
 {
-    if size > input.len() {
-        return Err(CaptureRefusal::CutShort);
-    }
-    Ok((&input[0..size], &input[size..]))
+    input.split_at_checked(size).ok_or(CaptureRefusal::CutShort)
 }
 
 // A section whose items are bytes, and what follows it.
-fn read_section<'a>(input: &'a [u8]) -> Result<(&'a [u8], &'a [u8]), CaptureRefusal>
+fn read_section(input: &[u8]) -> Result<(&[u8], &[u8]), CaptureRefusal>
     ensures { elim result [ Ok s ↦ section input.now ≡ Ok (s.0.now, s.1.now) | Err e ↦ section input.now ≡ Err e ] }
 {
     let (count, rest) = read_count(input)?;
@@ -68,7 +67,7 @@ fn read_section<'a>(input: &'a [u8]) -> Result<(&'a [u8], &'a [u8]), CaptureRefu
 }
 
 // All three, with nothing behind them.
-pub(crate) fn read_sections<'a>(input: &'a [u8]) -> Result<Sections<'a>, CaptureRefusal>
+pub(crate) fn read_sections(input: &[u8]) -> Result<Sections<'_>, CaptureRefusal>
     ensures { elim result [ Ok s ↦ sections input.now ≡ Ok (s.lengths.now, s.bytes.now, s.endings.now) | Err e ↦ sections input.now ≡ Err e ] }
 {
     let (count, rest) = read_count(input)?;
@@ -78,7 +77,7 @@ pub(crate) fn read_sections<'a>(input: &'a [u8]) -> Result<Sections<'a>, Capture
     let (lengths, rest) = part(rest, 4 * count as usize)?;
     let (bytes, rest) = read_section(rest)?;
     let (endings, rest) = read_section(rest)?;
-    if rest.len() > 0 {
+    if !rest.is_empty() {
         return Err(CaptureRefusal::CutShort);
     }
     Ok(Sections {
