@@ -1,14 +1,14 @@
 -- The laws of decoding from the start of a body.
 use Rattle.std.proofs.Common.{◌≡◌, ℕ, zero, suc, ◌+◌, ◌≤◌, Bool, true, false, List, [], ◌∷◌, ◌++◌, length, take, drop, sym, refl, ap, ◌∙◌, subst, append-nil, add-zero, arith, take-append-drop}
 use Rattle.std.proofs.lemmas.List.{length-take-le}
-use Rattle.carrier.specs.declared.Fault.{Fault}
-use Rattle.carrier.specs.declared.Ending.{Ending}
-use Rattle.carrier.specs.declared.Ending.TheVariants.{Clean, Broken}
+use Rattle.carrier.specs.declared.endings.Fault.{Fault}
+use Rattle.carrier.specs.declared.endings.Ending.{Ending}
+use Rattle.carrier.specs.declared.endings.Ending.TheVariants.{Clean, Broken}
 use Rattle.chunks.specs.declared.machine.State.{State}
 use Rattle.chunks.specs.declared.machine.State.TheVariants as state
 use Rattle.chunks.specs.Machine.{next_state, over}
 use Rattle.chunks.specs.Decoding.{state_after, data_in, drawn_in, cut_short, ending_at, ending_in}
-use Rattle.carrier.specs.Passing.{counted, deeper}
+use Rattle.carrier.specs.Passing.{counted}
 use Rattle.chunks.specs.Splitting.{over_after, drawn_over, drawn_more, drawn_live, drawn_within, split_data, state_after_append, data_in_append}
 use Rattle.chunks.specs.Layer.{at_end}
 use Rattle.chunks.specs.Grammar.{Body}
@@ -17,20 +17,9 @@ use Rattle.chunks.proofs.Advancing.{ends_short}
 use Rattle.chunks.proofs.Leading.{body_leads, drawn_append}
 use Rattle.chunks.proofs.Reading.{reads, body_rest}
 
-never_clean : (drawn : ℕ) (e : Ending) → cut_short drawn e ≡ Clean → ⊥
-never_clean drawn Clean h = let z : ◌≡◌ {A = ℕ} 0 1 = cc in omega arith
-never_clean drawn (Broken f) h = let z : ◌≡◌ {A = ℕ} 0 1 = cc in omega arith
-
 -- a clean end stands behind the body's end alone
 clean_done : (at : State) (drawn : ℕ) (e : Ending) → ending_at at drawn e ≡ Clean → at ≡ state.Done
-clean_done (state.Size digits value) drawn e h = absurd (never_clean drawn e h)
-clean_done (state.Extension length value) drawn e h = absurd (never_clean drawn e h)
-clean_done (state.SizeCr value) drawn e h = absurd (never_clean drawn e h)
-clean_done (state.Data left) drawn e h = absurd (never_clean drawn e h)
-clean_done state.DataCr drawn e h = absurd (never_clean drawn e h)
-clean_done (state.Trailer length at) drawn e h = absurd (never_clean drawn e h)
-clean_done state.Done drawn e h = refl
-clean_done (state.Failed c) drawn e h = let z : ◌≡◌ {A = ℕ} 0 1 = cc in absurd (omega arith)
+clean_done at drawn e h = grind arith
 
 -- bytes that are drawn are drawn without those behind them too
 drawn_take : (at : State) (k : ℕ) (bs : List ℕ) → k ≤ drawn_in at bs → drawn_in at (take k bs) ≡ k
@@ -83,8 +72,7 @@ clean_exactly bs d e u = (
 
 -- a cut_short ending is cause 6, or comes from beneath
 short_told : (drawn : ℕ) (e : Ending) (f : Fault) → cut_short drawn e ≡ Broken f → f.depth ≡ 0 → f.cause ≤ 5 → ⊥
-short_told drawn Clean f h own few = let z : f.cause ≡ 6 = cc in omega arith
-short_told drawn (Broken g) f h own few = let same : deeper g ≡ f = cc in omega (arith, ap (λ x. x.depth) same)
+short_told drawn e f h own few = grind arith
 
 pub none_goes_on : NoneGoesOn
 none_goes_on bs e f told own few more d body = by (over (state_after start bs)) refl
@@ -95,5 +83,4 @@ none_goes_on bs e f told own few more d body = by (over (state_after start bs)) 
         let front = take (drawn_in start bs) bs in
         let done : state_after start bs ≡ state.Done = sym (over_after (state_after start bs) more o).0 ∙ ap (λ s. state_after s more) (sym (state_alone bs)) ∙ sym (state_after_append start front more) ∙ (body_leads body).ends in
         let clean : Clean ≡ Broken f = ap (λ s. ending_at s (counted 0 (drawn_in start bs)) e) (sym done) ∙ told in
-        let z : ◌≡◌ {A = ℕ} 0 1 = cc in
-        omega arith
+        cc

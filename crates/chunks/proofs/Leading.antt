@@ -1,14 +1,15 @@
 -- The bytes of a chunked body lead to its end, and give its data.
-use Rattle.std.proofs.Common.{◌≡◌, ℕ, zero, suc, ◌+◌, ◌-◌, ◌*◌, ◌%◌, ◌^◌, ◌<◌, ◌≤◌, Bool, true, false, cond, ◌&&◌, eqb, leb, List, [], ◌∷◌, ◌++◌, length, Some, None, sym, refl, ap, ◌∙◌, subst, append_assoc, add-zero, add_assoc, mul_assoc, add-mul, pow-suc, zero-add, zero-mul, arith, length-append}
+use Rattle.std.proofs.Common.{◌≡◌, ℕ, suc, ◌+◌, ◌*◌, ◌%◌, ◌^◌, ◌<◌, ◌≤◌, Bool, true, false, cond, eqb, List, [], ◌∷◌, ◌++◌, length, Some, sym, refl, ap, ◌∙◌, subst, append_assoc, add-zero, add_assoc, mul_assoc, add-mul, pow-suc, zero-add, zero-mul, arith, length-append}
 use native.Mathlib.Nat.{pow-succ', pow-le-pow_right}
-use Rattle.std.proofs.lemmas.Bool.{cond-true, cond-false, lt-ltb, ne_eqb, leb-true, and_parts, eqb-true}
+use Rattle.std.proofs.lemmas.Bool.Decides.{nat_tests}
+use Rattle.std.proofs.lemmas.Bool.{cond-true, cond-false, lt-ltb, ne_eqb, eqb-true}
 use Rattle.chunks.specs.declared.machine.Line.{Line}
 use Rattle.chunks.specs.declared.machine.Line.TheVariants as line
 use Rattle.chunks.specs.declared.machine.State.{State}
 use Rattle.chunks.specs.declared.machine.State.TheVariants as state
-use Rattle.chunks.specs.Machine.{digit_of, after_size, after_size_line, line_after, after_trailer, next_state, data_byte, over}
+use Rattle.chunks.specs.Machine.{digit_of, after_size, after_size_line, line_after, next_state, data_byte, over}
 use Rattle.chunks.specs.Decoding.{state_after, data_in, drawn_in}
-use Rattle.chunks.specs.Splitting.{state_after_append, data_in_append, drawn_more}
+use Rattle.chunks.specs.Splitting.{state_after_append, data_in_append, drawn_over, drawn_more}
 use Rattle.chunks.specs.Grammar.{CRLF, Hex, Plain, Extension, SizeLine, Unbroken, Lines, Body}
 
 -- all of the bytes are drawn, give the data ds, and lead from one state to another
@@ -31,11 +32,7 @@ first at then to b bs cs ds live next byte rest =
 
 pub drawn_append : (at : State) (xs ys : List ℕ) → drawn_in at xs ≡ length xs → drawn_in at (xs ++ ys) ≡ length xs + drawn_in (state_after at xs) ys
 drawn_append at [] ys h = sym (zero-add (drawn_in at ys))
-drawn_append at (x ∷ xs) ys h = by (over at) refl (drawn_append (next_state at x) xs ys)
-  where
-    by : (o : Bool) → over at ≡ o → (drawn_in (next_state at x) xs ≡ length xs → drawn_in (next_state at x) (xs ++ ys) ≡ length xs + drawn_in (state_after (next_state at x) xs) ys) → drawn_in at (x ∷ (xs ++ ys)) ≡ suc (length xs) + drawn_in (state_after (next_state at x) xs) ys
-    by true o f = let z = sym h ∙ cond-true _ _ _ o in absurd (omega arith)
-    by false o f = let z = sym h ∙ drawn_more at x xs o in let same : drawn_in (next_state at x) xs ≡ length xs = omega arith in drawn_more at x (xs ++ ys) o ∙ omega (arith, f same)
+drawn_append at (x ∷ xs) ys h = grind (arith, drawn_over at (x ∷ xs), drawn_more at x xs, drawn_more at x (xs ++ ys), drawn_append (next_state at x) xs ys)
 
 -- one run of bytes behind another
 then_leads : (at to on : State) (xs ys ds es : List ℕ) → Leads at xs to ds → Leads to ys on es → Leads at (xs ++ ys) on (ds ++ es)
@@ -48,19 +45,7 @@ then_leads at to on xs ys ds es p q =
 
 -- a digit says less than 16
 digit_small : (b d : ℕ) → digit_of b ≡ Some d → d < 16
-digit_small b d h = decimal (leb 48 b && leb b 57) refl h
-  where
-    small : (t : Bool) → (leb 97 b && leb b 102) ≡ t → cond t (Some (b - 87)) None ≡ Some d → d < 16
-    small true t h = let same : b - 87 ≡ d = cc in let p = and_parts (leb 97 b) (leb b 102) t in omega (arith, leb-true b 102 p.1)
-    small false t h = let z : ◌≡◌ {A = ℕ} 0 1 = cc in absurd (omega arith)
-
-    large : (t : Bool) → (leb 65 b && leb b 70) ≡ t → cond t (Some (b - 55)) (cond (leb 97 b && leb b 102) (Some (b - 87)) None) ≡ Some d → d < 16
-    large true t h = let same : b - 55 ≡ d = cc in let p = and_parts (leb 65 b) (leb b 70) t in omega (arith, leb-true b 70 p.1)
-    large false t h = small (leb 97 b && leb b 102) refl h
-
-    decimal : (t : Bool) → (leb 48 b && leb b 57) ≡ t → cond t (Some (b - 48)) (cond (leb 65 b && leb b 70) (Some (b - 55)) (cond (leb 97 b && leb b 102) (Some (b - 87)) None)) ≡ Some d → d < 16
-    decimal true t h = let same : b - 48 ≡ d = cc in let p = and_parts (leb 48 b) (leb b 57) t in omega (arith, leb-true b 57 p.1)
-    decimal false t h = large (leb 65 b && leb b 70) refl h
+digit_small b d h = grind (arith, nat_tests)
 
 -- one more digit, of at most 8
 pub digit_more : (k v b d : ℕ) → digit_of b ≡ Some d → k < 8 → v < 16 ^ k → (v % 2 ^ 28 * 16 + d ≡ v * 16 + d) × (v * 16 + d < 16 ^ (k + 1))
@@ -118,8 +103,7 @@ Open line.Inside x = Unbroken x
 Open line.InsideCr x = Unbroken (13 ∷ x)
 
 unbroken_tail : (b : ℕ) (x : List ℕ) → Unbroken (b ∷ x) → Unbroken x
-unbroken_tail b [] u = tt
-unbroken_tail b (c ∷ x) u = u.1
+unbroken_tail b x u = grind arith
 
 -- a byte that is not the LF behind a CR stays in the line
 stays_open : (at cr : Line) (b : ℕ) (x : List ℕ) → line_after at b ≡ cond (eqb b 13) (Some cr) (Some line.Inside) → (Unbroken (13 ∷ x) → Open cr x) → Unbroken (b ∷ x) → (to : Line) × (line_after at b ≡ Some to) × Open to x
@@ -136,13 +120,10 @@ open_more line.Inside b x o = stays_open line.Inside line.InsideCr b x refl (λ 
 open_more line.InsideCr b x o = stays_open line.InsideCr line.InsideCr b x (cond-false _ _ _ (ne_eqb b 10 (o.0 refl))) (λ u. u) o.1
 
 open_cr : (at : Line) → Open at [] → line_after at 13 ≡ Some line.InsideCr
-open_cr line.Start o = absurd (omega arith)
-open_cr line.StartCr o = refl
-open_cr line.Inside o = refl
-open_cr line.InsideCr o = refl
+open_cr at o = grind arith
 
 trailer_more : (at to : Line) (j b : ℕ) → line_after at b ≡ Some to → j < 1023 → next_state (state.Trailer j at) b ≡ state.Trailer (j + 1) to
-trailer_more at to j b is few = ap (after_trailer j) is ∙ cond-true _ _ _ (lt-ltb j 1023 few)
+trailer_more at to j b is few = grind (arith, nat_tests)
 
 line_leads : (x : List ℕ) (at : Line) (j : ℕ) → Open at x → j + length x + 2 ≤ 1023 → Leads (state.Trailer j at) (x ++ CRLF) (state.Trailer (j + length x + 2) line.Start) []
 line_leads [] at j o few =
@@ -171,8 +152,7 @@ lines_lead j (Lines.line x {t} some unbroken rest) few =
     subst (λ l. Leads (state.Trailer j line.Start) l state.Done []) (append_assoc x CRLF t) (then_leads (state.Trailer j line.Start) (state.Trailer (j + length x + 2) line.Start) state.Done (x ++ CRLF) t [] [] here (lines_lead (j + length x + 2) rest (omega arith)))
 
 some_data : (n : ℕ) → 0 < n → after_size_line n ≡ state.Data n
-some_data zero h = absurd (omega arith)
-some_data (suc n) h = refl
+some_data n h = grind arith
 
 pub body_leads : {bs ds : List ℕ} → Body bs ds → Leads (state.Size 0 0) bs state.Done ds
 body_leads (Body.last {l} {t} size lines few) = then_leads (state.Size 0 0) (state.Trailer 0 line.Start) state.Done l t [] [] (size_line_leads l 0 size) (lines_lead 0 lines (omega arith))

@@ -1,13 +1,14 @@
 -- What leads to a clean end is a chunked body: each state says what of one is still to come.
 use Rattle.std.proofs.Common.{◌≡◌, ℕ, zero, suc, ◌+◌, ◌*◌, ◌%◌, ◌^◌, ◌<◌, ◌≤◌, Bool, true, false, cond, eqb, ltb, ◌≢◌, List, [], ◌∷◌, ◌++◌, length, Some, None, Option, sym, refl, ap, ◌∙◌, subst, append_assoc, zero-add, zero-mul, arith}
-use Rattle.std.proofs.lemmas.Bool.{true≢false, cond-true, eqb-true, eqb-false, ltb-true}
+use Rattle.std.proofs.lemmas.Bool.Decides.{nat_tests}
+use Rattle.std.proofs.lemmas.Bool.{true≢false, eqb-true, eqb-false, ltb-true}
 use Rattle.chunks.specs.declared.machine.Line.{Line}
 use Rattle.chunks.specs.declared.machine.Line.TheVariants as line
 use Rattle.chunks.specs.declared.machine.State.{State}
 use Rattle.chunks.specs.declared.machine.State.TheVariants as state
 use Rattle.chunks.specs.Machine.{digit_of, after_size, after_size_line, line_after, after_trailer, next_state, data_byte, over}
 use Rattle.chunks.specs.Decoding.{state_after, data_in, drawn_in}
-use Rattle.chunks.specs.Splitting.{drawn_more}
+use Rattle.chunks.specs.Splitting.{drawn_over, drawn_more}
 use Rattle.chunks.specs.Grammar.{CRLF, Hex, Plain, Extension, SizeLine, Unbroken, Lines, Body}
 use Rattle.chunks.proofs.Leading.{digit_more, said}
 
@@ -62,7 +63,7 @@ chosen false x y bs ds r f g = g refl r
 
 -- the same byte, by the test that told it
 same_first : (b c : ℕ) (bs cs : List ℕ) → eqb b c ≡ true → bs ≡ cs → b ∷ bs ≡ c ∷ cs
-same_first b c bs cs t e = ap (λ x. x ∷ bs) (eqb-true b c t) ∙ ap (λ l. c ∷ l) e
+same_first b c bs cs t e = grind (arith, nat_tests)
 
 module _ (bs ds : List ℕ) (b : ℕ) where
   from_digits : (k v : ℕ) (d : Option ℕ) → digit_of b ≡ d → Rest (after_size k v b d) bs ds → Rest (state.Size k v) (b ∷ bs) ds
@@ -114,7 +115,7 @@ module _ (bs ds : List ℕ) (b : ℕ) where
   from_data (suc n) r = (b ∷ r.0, r.1, r.2, ap (λ l. b ∷ l) r.3, ap suc r.4, ap (λ l. b ∷ l) r.5, r.6)
 
 apart : (hs ext l : List ℕ) → (hs ++ (ext ++ CRLF)) ++ l ≡ hs ++ (ext ++ (CRLF ++ l))
-apart hs ext l = append_assoc hs (ext ++ CRLF) l ∙ ap (λ x. hs ++ x) (append_assoc ext CRLF l)
+apart hs ext l = simp append_assoc
 
 -- a size line, and what it announces
 whole_body : (hs ext rest ds : List ℕ) (w : ℕ) → Hex hs w → 0 < length hs → length hs ≤ 8 → Extension ext → Tail w rest ds → Body (hs ++ (ext ++ (CRLF ++ rest))) ds
@@ -137,8 +138,7 @@ from_data_cr : (bs ds : List ℕ) (b : ℕ) → Rest (next_state state.DataCr b)
 from_data_cr bs ds b r = chosen (eqb b 10) (state.Size 0 0) _ bs ds r (λ t rest. (bs, same_first b 10 bs bs t refl, body_rest bs ds rest)) (λ t rest. absurd rest)
 
 unbroken_more : (b : ℕ) (x : List ℕ) → b ≢ 13 → Unbroken x → Unbroken (b ∷ x)
-unbroken_more b [] other u = tt
-unbroken_more b (c ∷ x) other u = (λ cr. absurd (other cr), u)
+unbroken_more b x other u = grind arith
 
 -- a line that begins with CR, and another CR before it
 cr_more : (x t bs : List ℕ) → 13 ∷ bs ≡ x ++ (CRLF ++ t) → Unbroken x → Unbroken (13 ∷ x)
@@ -206,11 +206,7 @@ before state.Done bs ds b live r = absurd (true≢false live)
 before (state.Failed c) bs ds b live r = absurd (true≢false live)
 
 drawn_first : (at : State) (b : ℕ) (bs : List ℕ) → drawn_in at (b ∷ bs) ≡ suc (length bs) → (over at ≡ false) × (drawn_in (next_state at b) bs ≡ length bs)
-drawn_first at b bs all = by (over at) refl
-  where
-    by : (o : Bool) → over at ≡ o → (o ≡ false) × (drawn_in (next_state at b) bs ≡ length bs)
-    by true o = let z = sym all ∙ cond-true _ _ _ o in absurd (omega arith)
-    by false o = (refl, omega (arith, sym all ∙ drawn_more at b bs o))
+drawn_first at b bs all = grind (arith, drawn_over, drawn_more)
 
 pub reads : (at : State) (bs : List ℕ) → state_after at bs ≡ state.Done → drawn_in at bs ≡ length bs → Rest at bs (data_in at bs)
 reads at [] ends all = subst (λ s. Rest s [] []) (sym ends) (refl, refl)

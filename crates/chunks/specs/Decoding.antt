@@ -1,9 +1,9 @@
 -- The data and the ending that the bytes beneath come to.
 use Rattle.std.specs.Prelude.{ℕ, zero, suc, ◌-◌, cond, List, [], ◌∷◌, ◌++◌, length}
-use Rattle.carrier.specs.declared.Fault.{Fault}
-use Rattle.carrier.specs.declared.Ending.{Ending}
-use Rattle.carrier.specs.declared.Ending.TheVariants.{Clean, Broken}
-use Rattle.carrier.specs.Passing.{deeper, counted}
+use Rattle.carrier.specs.declared.endings.Fault.{Fault}
+use Rattle.carrier.specs.declared.endings.Ending.{Ending}
+use Rattle.carrier.specs.declared.endings.Ending.TheVariants.{Clean, Broken}
+use Rattle.carrier.specs.Passing.{found, deeper, counted}
 use Rattle.chunks.specs.declared.machine.ChunkCause.{ChunkCause}
 use Rattle.chunks.specs.declared.machine.ChunkCause.TheVariants.{EndsEarly}
 use Rattle.chunks.specs.declared.machine.State.{State}
@@ -31,8 +31,9 @@ drawn_through at zero bs = 0
 drawn_through at (suc n) [] = 0
 drawn_through at (suc n) (b ∷ bs) = suc (drawn_through (next_state at b) (suc n - length (data_byte at b)) bs)
 
+-- a fault that the layer itself finds, with so many bytes drawn
 abbrev pub own_fault : ChunkCause → ℕ → Fault
-own_fault c drawn = record { cause = cause_number c; place = drawn; depth = 0 }
+own_fault c drawn = found (cause_number c) drawn
 
 -- the ending where the bytes beneath end before the body is over
 abbrev pub cut_short : ℕ → Ending → Ending

@@ -1,8 +1,8 @@
 -- What decoding from the start of a body comes to, by the grammar and by worked examples.
 use Rattle.std.specs.Prelude.{◌≡◌, ℕ, ◌≤◌, List, [], ◌∷◌, ◌++◌, length, take}
-use Rattle.carrier.specs.declared.Fault.{Fault}
-use Rattle.carrier.specs.declared.Ending.{Ending}
-use Rattle.carrier.specs.declared.Ending.TheVariants.{Clean, Broken}
+use Rattle.carrier.specs.declared.endings.Fault.{Fault}
+use Rattle.carrier.specs.declared.endings.Ending.{Ending}
+use Rattle.carrier.specs.declared.endings.Ending.TheVariants.{Clean, Broken}
 use Rattle.chunks.specs.declared.machine.State.{State}
 use Rattle.chunks.specs.declared.machine.State.TheVariants.{Size}
 use Rattle.chunks.specs.Decoding.{data_in, drawn_in, ending_in}

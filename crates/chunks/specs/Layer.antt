@@ -3,7 +3,8 @@ use Rattle.std.specs.Prelude.{◌≡◌, ℕ, zero, suc, ◌+◌, ◌≤◌, Boo
 use Rattle.std.proofs.Common.{sym, ap, ◌∙◌, add-zero, arith, length-append, take-add}
 use Rattle.std.proofs.lemmas.List.{drop_at, drop_all}
 use Rattle.std.proofs.lemmas.Bool.{false≢true}
-use Rattle.carrier.specs.declared.Ending.{Ending}
+use Rattle.std.proofs.Math.Bool.{or-false, or_self}
+use Rattle.carrier.specs.declared.endings.Ending.{Ending}
 use Rattle.carrier.specs.Pulls.{Adds, Spent}
 use Rattle.chunks.specs.declared.machine.State.{State}
 use Rattle.chunks.specs.declared.Chunks.{Chunks}
@@ -50,14 +51,6 @@ module _ (at : State) (n : ℕ) (bs : List ℕ) where
       let k = used_for at n told bs in
       sym (ap (drop n) (split_data at k bs) ∙ drop_at (data_in at (take k bs)) (data_in (behind at k bs) (drop k bs)) n (used_gives told g))
 
-or-false : (x : Bool) → x ≡ (x || false)
-or-false true = refl
-or-false false = refl
-
-or_same : (x : Bool) → x ≡ (x || x)
-or_same true = refl
-or_same false = refl
-
 -- more data bytes, once the first m were given
 module _ (at : State) (m n : ℕ) (bs : List ℕ) where
   abbrev pub Joins : Bool → Bool → State → List ℕ → Type 0
@@ -96,9 +89,9 @@ module _ (at : State) (m n : ℕ) (bs : List ℕ) where
       all = omega (arith, g.1 refl, none)
 
       by : (b : Bool) → Gives (behind at k bs) n b (drop k bs) → Gives at (m + n) true bs × (k ≡ k + used_for (behind at k bs) n b (drop k bs)) × (not (over (state_after at bs)) ≡ (not (over (state_after at bs)) || ran_dry (behind at k bs) b (drop k bs)))
-      by false h = ((omega (arith, all), λ told. all), omega (arith, ap (λ l. drawn_through (behind at k bs) l (drop k bs)) none), or-false (not (over (state_after at bs))))
+      by false h = ((omega (arith, all), λ told. all), omega (arith, ap (λ l. drawn_through (behind at k bs) l (drop k bs)) none), sym (or-false (not (over (state_after at bs)))))
       by true h =
-          ((omega (arith, all), λ told. all), omega (arith, (at_end at bs).0), or_same (not (over (state_after at bs))) ∙ ap (λ s. not (over (state_after at bs)) || not (over s)) (split_state at k bs))
+          ((omega (arith, all), λ told. all), omega (arith, (at_end at bs).0), sym (or_self (not (over (state_after at bs)))) ∙ ap (λ s. not (over (state_after at bs)) || not (over s)) (split_state at k bs))
 
 abbrev pub data_coming : {C : Type 0} (coming : C → List ℕ) → Chunks C → List ℕ
 data_coming coming s = data_in s.state (coming s.beneath)

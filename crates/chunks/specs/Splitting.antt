@@ -1,35 +1,19 @@
 -- A run of bytes, split after some of them. (These lemmas stand in specs/ since the layer's `adds`, which rests on them, is part
 -- of what its contract cites.)
-use Rattle.std.specs.Prelude.{◌≡◌, ℕ, zero, suc, ◌+◌, ◌-◌, ◌≤◌, Bool, true, false, List, [], ◌∷◌, ◌++◌, length, take, drop, refl}
+use Rattle.std.specs.Prelude.{◌≡◌, ℕ, zero, suc, ◌+◌, ◌-◌, ◌≤◌, true, false, List, [], ◌∷◌, ◌++◌, length, take, drop, refl}
 use Rattle.std.proofs.Common.{sym, ap, ◌∙◌, append_assoc, zero-add, suc-add, arith, length-append, take-append-drop}
-use Rattle.std.proofs.lemmas.Bool.{false≢true, cond-true, cond-false}
+use Rattle.std.proofs.lemmas.Bool.{cond-true, cond-false}
 use Rattle.chunks.specs.declared.machine.State.{State}
-use Rattle.chunks.specs.declared.machine.State.TheVariants as state
 use Rattle.chunks.specs.Machine.{next_state, data_byte, over}
 use Rattle.chunks.specs.Decoding.{state_after, data_in, drawn_in, drawn_through}
 use Rattle.carrier.specs.Passing.{counted}
 
 -- nothing leads on from where the body is over
 over_stays : (at : State) (b : ℕ) → over at ≡ true → (next_state at b ≡ at) × (data_byte at b ≡ [])
-over_stays (state.Size digits value) b h = absurd (false≢true h)
-over_stays (state.Extension length value) b h = absurd (false≢true h)
-over_stays (state.SizeCr value) b h = absurd (false≢true h)
-over_stays (state.Data left) b h = absurd (false≢true h)
-over_stays state.DataCr b h = absurd (false≢true h)
-over_stays (state.Trailer length at) b h = absurd (false≢true h)
-over_stays state.Done b h = (refl, refl)
-over_stays (state.Failed c) b h = (refl, refl)
+over_stays at b h = grind arith
 
 one_at_most : (at : State) (b : ℕ) → length (data_byte at b) ≤ 1
-one_at_most (state.Size digits value) b = omega arith
-one_at_most (state.Extension length value) b = omega arith
-one_at_most (state.SizeCr value) b = omega arith
-one_at_most (state.Data zero) b = omega arith
-one_at_most (state.Data (suc left)) b = omega arith
-one_at_most state.DataCr b = omega arith
-one_at_most (state.Trailer length at) b = omega arith
-one_at_most state.Done b = omega arith
-one_at_most (state.Failed c) b = omega arith
+one_at_most at b = grind arith
 
 pub state_after_append : (at : State) (xs ys : List ℕ) → state_after at (xs ++ ys) ≡ state_after (state_after at xs) ys
 state_after_append at [] ys = refl
@@ -56,35 +40,19 @@ drawn_more at b bs h = cond-false _ _ _ h
 
 -- where a byte is drawn, or a data byte comes, the body is not over
 pub drawn_live : (at : State) (k b : ℕ) (bs : List ℕ) → suc k ≤ drawn_in at (b ∷ bs) → over at ≡ false
-drawn_live at k b bs h = by (over at) refl
-  where
-    by : (o : Bool) → over at ≡ o → o ≡ false
-    by true o = absurd (omega (arith, drawn_over at (b ∷ bs) o))
-    by false o = refl
+drawn_live at k b bs h = grind (arith, drawn_over)
 
 data_live : (at : State) (n : ℕ) (bs : List ℕ) → suc n ≤ length (data_in at bs) → over at ≡ false
-data_live at n bs h = by (over at) refl
-  where
-    by : (o : Bool) → over at ≡ o → o ≡ false
-    by true o = absurd (omega (arith, ap length (over_after at bs o).1))
-    by false o = refl
+data_live at n bs h = grind (arith, over_after at bs)
 
 pub drawn_within : (at : State) (bs : List ℕ) → drawn_in at bs ≤ length bs
 drawn_within at [] = omega arith
-drawn_within at (b ∷ bs) = by (over at) refl (drawn_within (next_state at b) bs)
-  where
-    by : (o : Bool) → over at ≡ o → drawn_in (next_state at b) bs ≤ length bs → drawn_in at (b ∷ bs) ≤ length (b ∷ bs)
-    by true o h = omega (arith, drawn_over at (b ∷ bs) o)
-    by false o h = omega (arith, drawn_more at b bs o)
+drawn_within at (b ∷ bs) = grind (arith, drawn_over at (b ∷ bs), drawn_more at b bs, drawn_within (next_state at b) bs)
 
 -- where no byte is drawn, nothing comes
 pub still : (at : State) (bs : List ℕ) → drawn_in at bs ≡ 0 → (state_after at bs ≡ at) × (data_in at bs ≡ [])
 still at [] h = (refl, refl)
-still at (b ∷ bs) h = by (over at) refl
-  where
-    by : (o : Bool) → over at ≡ o → (state_after at (b ∷ bs) ≡ at) × (data_in at (b ∷ bs) ≡ [])
-    by true o = over_after at (b ∷ bs) o
-    by false o = absurd (omega (arith, drawn_more at b bs o))
+still at (b ∷ bs) h = grind (arith, over_after at (b ∷ bs), drawn_more at b bs)
 
 -- the state behind the first k bytes
 abbrev pub behind : State → ℕ → List ℕ → State

@@ -1,87 +1,70 @@
-// Draws single bytes up to the next data byte, or to the ending.
+// Draws bytes from beneath: single ones up to the next data byte or to the ending, and the data itself.
 ghost use Rattle.std.specs.Prelude.{◌≡◌};
+ghost use Rattle.carrier.specs.Pulls.{Answers, given, told};
+ghost use Rattle.carrier.specs.Passing.{counted};
 ghost use Rattle.chunks.specs.Decoding.{own_fault, cut_short};
-ghost use Rattle.chunks.specs.Drawing.{reached_at, telling, Drew, Advanced};
+ghost use Rattle.chunks.specs.Drawing.{Drew, Advanced};
 
+use super::Chunks;
 use super::machine::{ChunkCause, State, next_state};
-use carrier::{Carrier, Ending, Fault, Pulled, passed_on};
+use carrier::{Carrier, Ending, Fault};
 
-// Where drawing single bytes comes to.
-#[derive(Clone, Copy)]
-pub enum Reached {
-    // at a chunk's data, of which so many bytes are to come
-    Chunk { left: u32 },
-    End(Ending),
-}
-
-fn own_fault(cause: ChunkCause, drawn: u64) -> Fault
-    ensures { result ≡ own_fault cause drawn }
-{
-    Fault {
-        cause: cause as u8,
-        place: drawn,
-        depth: 0,
+impl<C: Carrier> Chunks<C> {
+    // A fault that the layer itself finds; its place is how many bytes were drawn.
+    fn fault(&self, cause: ChunkCause) -> Fault
+        ensures { result ≡ own_fault cause self.now.drawn }
+    {
+        Fault::found(cause as u8, self.drawn)
     }
-}
 
-// The ending where the bytes beneath end before the body is over.
-pub fn cut_short(drawn: u64, beneath: Ending) -> Ending
-    ensures { result ≡ cut_short drawn beneath }
-{
-    match beneath {
-        Ending::Clean => Ending::Broken(own_fault(ChunkCause::EndsEarly, drawn)),
-        Ending::Broken(fault) => Ending::Broken(passed_on(fault)),
-    }
-}
-
-// The answer that tells an ending.
-pub fn telling(ending: Ending) -> Pulled
-    ensures { result ≡ telling ending }
-{
-    match ending {
-        Ending::Clean => Pulled::Ended,
-        Ending::Broken(fault) => Pulled::Broken(fault),
-    }
-}
-
-// Whether no more single bytes are to be drawn, and why.
-fn reached_at(state: &State, drawn: u64) -> Option<Reached>
-    ensures { result ≡ reached_at state.now drawn }
-{
-    match *state {
-        State::Data { left } if left > 0 => Some(Reached::Chunk { left }),
-        State::Done => Some(Reached::End(Ending::Clean)),
-        State::Failed(cause) => Some(Reached::End(Ending::Broken(own_fault(cause, drawn)))),
-        _ => None,
-    }
-}
-
-// One byte from beneath, or the ending there.
-fn draw<C: Carrier>(beneath: &mut C) -> Result<u8, Ending>
-    ensures { Drew C.Carrier.coming C.Carrier.ending C.Carrier.lacks beneath.old beneath.new result }
-{
-    let mut byte = [0];
-    match beneath.pull(&mut byte) {
-        Pulled::Taken(_) => Ok(byte[0]),
-        Pulled::Ended => Err(Ending::Clean),
-        Pulled::Broken(fault) => Err(Ending::Broken(fault)),
-    }
-}
-
-// Draws single bytes until a data byte is next, or the ending is known.
-pub fn advance<C: Carrier>(beneath: &mut C, state: &mut State, drawn: &mut u64) -> Reached
-    ensures { Advanced C.Carrier.coming C.Carrier.ending C.Carrier.lacks beneath.old beneath.new state.old drawn.old state.new drawn.new result }
-{
-    loop {
-        if let Some(reached) = reached_at(state, *drawn) {
-            return reached;
+    // The ending where the bytes beneath end before the body is over.
+    fn cut_short(&self, beneath: Ending) -> Ending
+        ensures { result ≡ cut_short self.now.drawn beneath }
+    {
+        match beneath {
+            Ending::Clean => Ending::Broken(self.fault(ChunkCause::EndsEarly)),
+            Ending::Broken(fault) => Ending::Broken(fault.passed_on()),
         }
-        match draw(beneath) {
-            Ok(byte) => {
-                *state = next_state(state, byte);
-                *drawn = drawn.saturating_add(1);
+    }
+
+    // Draws bytes of a body that is not over, and counts them; or tells where they end that the body is cut short.
+    pub(super) fn draw(&mut self, out: &mut [u8]) -> Result<usize, Ending>
+        ensures answers { Answers (C.Carrier.coming self.old.beneath) (cut_short self.old.drawn (C.Carrier.ending self.old.beneath)) out.old result (C.Carrier.coming self.new.beneath) (cut_short self.old.drawn (C.Carrier.ending self.new.beneath)) out.new }
+        ensures lacks { C.Carrier.lacks self.old.beneath (given result) (told result) self.new.beneath }
+        ensures state { self.new.state ≡ self.old.state }
+        ensures drawn { self.new.drawn ≡ counted self.old.drawn (given result) }
+    {
+        let n = self
+            .beneath
+            .pull(out)
+            .map_err(|ending| self.cut_short(ending))?;
+        self.drawn = self.drawn.saturating_add(n as u64);
+        Ok(n)
+    }
+
+    // A single byte of them.
+    fn draw_byte(&mut self) -> Result<u8, Ending>
+        ensures { Drew C.Carrier.coming C.Carrier.ending C.Carrier.lacks self.old self.new result }
+    {
+        let mut byte = [0];
+        self.draw(&mut byte)?;
+        Ok(byte[0])
+    }
+
+    // Draws single bytes until data is next, and answers how much is left of its chunk; or tells the ending.
+    pub(super) fn advance(&mut self) -> Result<u32, Ending>
+        ensures { Advanced C.Carrier.coming C.Carrier.ending C.Carrier.lacks self.old self.new result }
+    {
+        loop {
+            match self.state {
+                State::Data { left } if left > 0 => return Ok(left),
+                State::Done => return Err(Ending::Clean),
+                State::Failed(cause) => return Err(Ending::Broken(self.fault(cause))),
+                _ => {
+                    let byte = self.draw_byte()?;
+                    self.state = next_state(self.state, byte);
+                }
             }
-            Err(ending) => return Reached::End(cut_short(*drawn, ending)),
         }
     }
 }

@@ -19,8 +19,7 @@ ghost use Rattle.chunks.specs.Laws.{start, CleanExactly, NoneGoesOn, ExamplesHol
 mod drawing;
 mod machine;
 
-use carrier::{Carrier, Ending, Pulled};
-use drawing::{Reached, advance, cut_short, telling};
+use carrier::{Carrier, Ending, Layer};
 pub use machine::ChunkCause;
 use machine::State;
 
@@ -43,24 +42,9 @@ impl<C: Carrier> Chunks<C> {
     {
         Chunks {
             beneath,
-            state: State::Size {
-                digits: 0,
-                value: 0,
-            },
+            state: State::START,
             drawn: 0,
         }
-    }
-
-    // The carrier beneath, as it stands.
-    pub fn lift(self) -> C
-        ensures { result ≡ self.beneath }
-    {
-        let Chunks {
-            beneath,
-            state: _,
-            drawn: _,
-        } = self;
-        beneath
     }
 }
 
@@ -71,29 +55,29 @@ impl<C: Carrier> Carrier for Chunks<C> {
 
     ghost lacks = { data_lacks C.Carrier.coming C.Carrier.lacks };
 
-    ghost adds = { data_adds C.Carrier.coming C.Carrier.ending C.Carrier.lacks C.Carrier.adds };
-
-    fn pull(&mut self, out: &mut [u8]) -> Pulled {
-        let room = out.len();
-        if room == 0 {
-            return Pulled::Taken(0);
+    fn pull(&mut self, out: &mut [u8]) -> Result<usize, Ending> {
+        if out.is_empty() {
+            return Ok(0);
         }
-        let left = match advance(&mut self.beneath, &mut self.state, &mut self.drawn) {
-            Reached::Chunk { left } => left,
-            Reached::End(ending) => return telling(ending),
-        };
+        let left = self.advance()?;
         // the data goes straight into the caller's stretch
-        let most = room.min(left as usize);
-        match self.beneath.pull(&mut out[0..most]) {
-            Pulled::Taken(n) => {
-                self.state = State::Data {
-                    left: left - n as u32,
-                };
-                self.drawn = self.drawn.saturating_add(n as u64);
-                Pulled::Taken(n)
-            }
-            Pulled::Ended => telling(cut_short(self.drawn, Ending::Clean)),
-            Pulled::Broken(fault) => telling(cut_short(self.drawn, Ending::Broken(fault))),
-        }
+        let most = out.len().min(left as usize);
+        let n = self.draw(&mut out[..most])?;
+        self.state = State::Data {
+            left: left - n as u32,
+        };
+        Ok(n)
+    }
+
+    ghost adds = { data_adds C.Carrier.coming C.Carrier.ending C.Carrier.lacks C.Carrier.adds };
+}
+
+impl<C: Carrier> Layer for Chunks<C> {
+    type Beneath = C;
+
+    ghost beneath = { λ s. s.beneath };
+
+    fn lift(self) -> C {
+        self.beneath
     }
 }

@@ -62,16 +62,19 @@ pub enum State {
     Failed(ChunkCause),
 }
 
+impl State {
+    // At the first digit of a size line.
+    pub const START: State = State::Size {
+        digits: 0,
+        value: 0,
+    };
+}
+
 // The value of a hexadecimal digit.
-fn digit_of(byte: u8) -> Option<u8>
+fn digit_of(byte: u8) -> Option<u32>
     ensures { result ≡ digit_of byte }
 {
-    match byte as char {
-        '0'..='9' => Some(byte - b'0'),
-        'A'..='F' => Some(byte - b'A' + 10),
-        'a'..='f' => Some(byte - b'a' + 10),
-        _ => None,
-    }
+    (byte as char).to_digit(16)
 }
 
 // A byte among the digits of a size line, or behind them.
@@ -82,7 +85,7 @@ fn after_size(digits: u8, value: u32, byte: u8) -> State
         Some(digit) if digits < MOST_DIGITS => State::Size {
             digits: digits + 1,
             // no more than 7 digits came before, so that the remainder takes nothing away
-            value: value % (1 << 28) * 16 + digit as u32,
+            value: value % (1 << 28) * 16 + digit,
         },
         Some(_) => State::Failed(ChunkCause::NinthDigit),
         None if digits == 0 => State::Failed(ChunkCause::BadSizeLine),
@@ -141,10 +144,7 @@ fn after_data_cr(byte: u8) -> State
     ensures { result ≡ after_data_cr byte }
 {
     match byte {
-        LF => State::Size {
-            digits: 0,
-            value: 0,
-        },
+        LF => State::START,
         _ => State::Failed(ChunkCause::NoLineEnd),
     }
 }
@@ -177,10 +177,10 @@ fn after_trailer(length: u16, line: Line, byte: u8) -> State
 }
 
 // The state that a byte leads to.
-pub fn next_state(state: &State, byte: u8) -> State
-    ensures { result ≡ next_state state.now byte }
+pub fn next_state(state: State, byte: u8) -> State
+    ensures { result ≡ next_state state byte }
 {
-    match *state {
+    match state {
         State::Size { digits, value } => after_size(digits, value, byte),
         State::Extension { length, value } => after_extension(length, value, byte),
         State::SizeCr { value } => after_size_cr(value, byte),
