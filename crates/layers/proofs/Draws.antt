@@ -1,33 +1,21 @@
--- What a Pull of the length layer comes to where the bytes beneath end before the length is full.
-use Rattle.std.proofs.Common.{◌≡◌, ℕ, ◌<◌, Bool, true, List, [], length, sym, refl, ap, ◌∙◌, subst, arith}
-use Rattle.std.proofs.lemmas.List.{take_all}
-use Rattle.std.proofs.lemmas.Bool.{lt-ltb, cond-true}
-use Rattle.carrier.specs.declared.Ending.{Ending}
-use Rattle.carrier.specs.Pulls.{Adds}
-use Rattle.layers.specs.declared.lengths.Length.{Length}
+-- What a Pull of the length layer comes to where it took bytes from beneath.
+use Rattle.std.proofs.Common.{◌≡◌, ℕ, ◌-◌, ◌<◌, ◌≤◌, min, List, ◌++◌, length, take, drop, Ok, append_assoc, arith, take-append-drop, length-take}
+use Rattle.std.proofs.lemmas.List.{drop-append-le, take-take}
+use Rattle.std.proofs.lemmas.Grind.{common_steps}
+use Rattle.carrier.specs.declared.endings.Ending.{Ending}
 use Rattle.carrier.specs.Passing.{counted}
-use Rattle.layers.specs.Lengths.{gives, ends, short, Uses, length_adds}
+use Rattle.carrier.specs.Pulls.{Answers}
+use Rattle.layers.specs.Lengths.{gives, ends, gives_rest, ends_kept}
 
--- the layer s still wants bytes; the Pull beneath told the ending e and left the carrier there as x
-module _ {C : Type 0} {coming : C → List ℕ} {ending : C → Ending} {lacks : C → ℕ → Bool → C → Type 0} (adds : Adds coming ending lacks) (s : Length C) (x : C) (e : Ending) (wants : 0 < s.left) (none : coming s.beneath ≡ []) (is : ending s.beneath ≡ e) (told : lacks s.beneath 0 true x) where
-  gives_nothing : (bs : List ℕ) → bs ≡ [] → gives s.left bs ≡ []
-  gives_nothing bs h = ap (gives s.left) h ∙ take_all s.left [] (omega arith)
-
-  ends_short : ends s.left s.drawn (coming s.beneath) (ending s.beneath) ≡ short s.drawn e
-  ends_short =
-      cond-true _ _ _ (lt-ltb (length (coming s.beneath)) s.left (omega (arith, ap length none)))
-      ∙ ap (λ n. short (counted s.drawn n) (ending s.beneath)) (ap length none)
-      ∙ ap (λ n. short n (ending s.beneath)) (omega arith)
-      ∙ ap (short s.drawn) is
-
-  uses_ending : Uses coming lacks s 0 true (record { beneath = x; left = s.left; drawn = s.drawn })
-  uses_ending = (
-    omega arith,
-    omega arith,
-    omega arith,
-    λ yes. gives_nothing (coming x) ((adds.spends _ _ 0 true told).2 refl),
-    subst (λ b. lacks s.beneath 0 b x) (sym (lt-ltb (length (coming s.beneath)) s.left (omega (arith, ap length none)))) told,
-  )
-
-  pub ran_out : (gives s.left (coming s.beneath) ≡ []) × (ends s.left s.drawn (coming s.beneath) (ending s.beneath) ≡ short s.drawn e) × (gives s.left (coming x) ≡ []) × (ends s.left s.drawn (coming x) (ending x) ≡ ends s.left s.drawn (coming s.beneath) (ending s.beneath)) × Uses coming lacks s 0 true (record { beneath = x; left = s.left; drawn = s.drawn })
-  ran_out = (gives_nothing _ none, ends_short, uses_ending.3 refl, (length_adds adds).ends s _ 0 true uses_ending, uses_ending)
+-- the stretch was w, of which the first k bytes were lent, and then held ys
+pub drew : (bs bs' w ys : List ℕ) (e e' : Ending) (left drawn drawn' k n : ℕ) → 0 < left → drawn' ≡ counted drawn n → k ≡ min (length w) left → Answers bs e (take k w) (Ok n) bs' e' ys → Answers (gives left bs) (ends left drawn bs e) w (Ok n) (gives (left - n) bs') (ends (left - n) drawn' bs' e') (ys ++ drop k w)
+drew bs bs' w ys e e' left drawn drawn' k n wants count lent told =
+    let fits : n ≤ k = omega (arith, simp length-take at told.1) in (
+      grind (arith, common_steps),
+      omega arith,
+      grind (arith, common_steps),
+      let rest = gives_rest bs left n (omega arith) in cc,
+      let kept = ends_kept bs left drawn n e told.0 (omega arith) in cc,
+      let whole = take-append-drop k w in
+          let cut = drop-append-le n (take k w) (drop k w) told.1 in grind (arith, append_assoc, take-take),
+    )

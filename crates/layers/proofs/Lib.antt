@@ -1,4 +1,1 @@
-mod Stretches
 mod Draws
-mod SoMany
-mod Loads

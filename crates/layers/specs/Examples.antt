@@ -1,7 +1,7 @@
 -- Worked examples of all layers: one fact over one list.
 use Rattle.std.specs.Prelude.{◌≡◌, ℕ, ◌-◌, true, List, [], ◌∷◌, map, length}
-use Rattle.carrier.specs.declared.Ending.{Ending}
-use Rattle.carrier.specs.declared.Ending.TheVariants.{Clean, Broken}
+use Rattle.carrier.specs.declared.endings.Ending.{Ending}
+use Rattle.carrier.specs.declared.endings.Ending.TheVariants.{Clean, Broken}
 use Rattle.carrier.specs.Passing.{passed}
 use Rattle.chunks.specs.Decoding.{data_in, ending_in}
 use Rattle.chunks.specs.Layer.{used_for}

@@ -1,11 +1,11 @@
 -- The leftover layer: the bytes loaded into it, and then those beneath.
 use Rattle.std.specs.Prelude.{◌≡◌, ℕ, zero, suc, ◌+◌, ◌-◌, Bool, true, false, cond, ◌||◌, List, [], ◌∷◌, ◌++◌, map, length, take, drop, Ok, Err, Result, nat_lt, refl}
-use Rattle.std.proofs.Common.{sym, ap, subst, ◌∙◌, arith, length-drop, length-append}
-use Rattle.std.proofs.lemmas.List.{drop-drop, drop_all}
+use Rattle.std.proofs.Common.{ap, subst, ◌∙◌, arith, length-drop}
+use Rattle.std.proofs.lemmas.Grind.{common_steps}
 use Rattle.std.proofs.lemmas.Bool.{false≢true}
-use Rattle.carrier.specs.declared.Ending.{Ending}
-use Rattle.carrier.specs.declared.Ending.TheVariants.{Clean, Broken}
-use Rattle.carrier.specs.declared.Fault.{Fault}
+use Rattle.carrier.specs.declared.endings.Ending.{Ending}
+use Rattle.carrier.specs.declared.endings.Ending.TheVariants.{Clean, Broken}
+use Rattle.carrier.specs.declared.endings.Fault.{Fault}
 use Rattle.carrier.specs.Pulls.{Adds, Spent}
 use Rattle.layers.specs.declared.leftovers.Leftover.{Leftover}
 use Rattle.layers.specs.declared.leftovers.LoadRefusal.{LoadRefusal}
@@ -58,33 +58,26 @@ Uses lacks s n b t =
     × lacks s.beneath (n - length (held s)) b t.beneath
 
 drop_both : (xs ys : List ℕ) (n : ℕ) → drop n (xs ++ ys) ≡ drop n xs ++ drop (n - length xs) ys
-drop_both [] ys n = ap (λ k. drop k ys) (omega arith) ∙ ap (λ l. l ++ drop (n - 0) ys) (sym (drop_all n [] (omega arith)))
-drop_both (x ∷ xs) ys zero = let none : 0 ≡ 0 - suc (length xs) = omega arith in ap (λ k. (x ∷ xs) ++ drop k ys) none
-drop_both (x ∷ xs) ys (suc n) = drop_both xs ys n ∙ ap (λ k. drop n xs ++ drop k ys) (omega arith)
+drop_both [] ys n = grind (arith, common_steps)
+drop_both (x ∷ xs) ys zero = grind (arith, common_steps)
+drop_both (x ∷ xs) ys (suc n) = grind (arith, drop_both xs ys n)
 
 -- what the layer used adds up, if what the carrier beneath used does
 module _ {C : Type 0} {coming : C → List ℕ} {ending : C → Ending} {lacks : C → ℕ → Bool → C → Type 0} (adds : Adds coming ending lacks) where
   leftover_spends : (s t : Leftover C) (n : ℕ) (b : Bool) → Uses lacks s n b t → Spent (gives (held s) (coming s.beneath)) n b (gives (held t) (coming t.beneath))
   leftover_spends s t n b h =
       let under = adds.spends _ _ _ b h.2 in (
-        simp length-append (omega (arith, under.0)),
-        ap (λ l. l ++ coming t.beneath) h.0 ∙ ap (λ l. drop n (held s) ++ l) under.1 ∙ sym (drop_both (held s) (coming s.beneath) n),
-        λ told. ap (λ l. l ++ coming t.beneath) (h.1 told) ∙ under.2 told,
+        grind (arith, common_steps),
+        grind (arith, drop_both),
+        grind (arith, common_steps),
       )
 
   leftover_joined : (s t u : Leftover C) (m n : ℕ) (a b : Bool) → Uses lacks s m a t → Uses lacks t n b u → Uses lacks s (m + n) (a || b) u
   leftover_joined s t u m n a b p q = (
-    q.0 ∙ ap (drop n) p.0 ∙ drop-drop n m (held s),
-    none a b p.1 q.1,
-    subst (λ k. lacks s.beneath k (a || b) u.beneath) together (adds.joined _ _ _ _ _ a b p.2 q.2),
+    grind (arith, common_steps),
+    grind (arith, common_steps),
+    subst (λ k. lacks s.beneath k (a || b) u.beneath) (omega (arith, ap length p.0 ∙ length-drop m (held s))) (adds.joined _ _ _ _ _ a b p.2 q.2),
   )
-    where
-      none : (a b : Bool) → (a ≡ true → held t ≡ []) → (b ≡ true → held u ≡ []) → a || b ≡ true → held u ≡ []
-      none true b f g told = q.0 ∙ ap (drop n) (f refl) ∙ drop_all n [] (omega arith)
-      none false b f g told = g told
-
-      together : (m - length (held s)) + (n - length (held t)) ≡ (m + n) - length (held s)
-      together = omega (arith, ap length p.0 ∙ length-drop m (held s))
 
   pub leftover_adds : Adds {S = Leftover C} (λ s. gives (held s) (coming s.beneath)) (λ s. passed (ending s.beneath)) (Uses lacks)
   leftover_adds =

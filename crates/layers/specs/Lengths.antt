@@ -2,16 +2,18 @@
 --
 -- left   how many bytes it is still to give
 -- drawn  how many it has drawn from beneath since it was made
-use Rattle.std.specs.Prelude.{◌≡◌, ℕ, ◌+◌, ◌-◌, ◌<◌, ◌≤◌, min, Bool, true, false, cond, ◌&&◌, ◌||◌, ltb, ◌⊎◌, List, [], ◌∷◌, ◌++◌, map, length, take, drop, nat_lt, refl}
-use Rattle.std.proofs.Common.{sym, ap, subst, ◌∙◌, inl, inr, arith, length-take, length-drop}
-use Rattle.std.proofs.lemmas.List.{nil_from_length, drop-take}
-use Rattle.std.proofs.lemmas.Bool.{cases_lt, lt-ltb, le-ltb, false≢true}
-use Rattle.carrier.specs.declared.Ending.{Ending}
-use Rattle.carrier.specs.declared.Ending.TheVariants.{Clean, Broken}
-use Rattle.carrier.specs.declared.Fault.{Fault}
+use Rattle.std.specs.Prelude.{◌≡◌, ℕ, ◌+◌, ◌-◌, ◌<◌, ◌≤◌, min, Bool, true, cond, ◌&&◌, ◌||◌, List, [], ◌∷◌, ◌++◌, map, length, take, drop, nat_lt}
+use Rattle.std.proofs.Common.{subst, arith, length-drop}
+use Rattle.std.proofs.lemmas.List.{drop-take}
+use Rattle.std.proofs.lemmas.Grind.{common_steps}
+use Rattle.std.proofs.Math.Bool.{and-or_distrib_right}
+use Rattle.std.proofs.lemmas.Bool.{false≢true}
+use Rattle.carrier.specs.declared.endings.Ending.{Ending}
+use Rattle.carrier.specs.declared.endings.Ending.TheVariants.{Clean, Broken}
+use Rattle.carrier.specs.declared.endings.Fault.{Fault}
 use Rattle.carrier.specs.Pulls.{Adds, Spent}
 use Rattle.layers.specs.declared.lengths.Length.{Length}
-use Rattle.carrier.specs.Passing.{deeper, counted}
+use Rattle.carrier.specs.Passing.{found, deeper, counted}
 
 -- what is to come, with bs to come beneath
 abbrev pub gives : ℕ → List ℕ → List ℕ
@@ -19,7 +21,7 @@ gives left bs = take left bs
 
 -- the bytes beneath end before the length is full: the layer's own fault, unless they break off themselves
 abbrev pub short : ℕ → Ending → Ending
-short place Clean = Broken (record { cause = 6; place = place; depth = 0 })
+short place Clean = Broken (found 6 place)
 short place (Broken f) = Broken (deeper f)
 
 -- the ending, with bs to come beneath and the ending e there
@@ -33,7 +35,7 @@ pub record GivesExactlySoMany (n : ℕ) (bs : List ℕ) (e : Ending) (to_come : 
   pub first : bs ≡ to_come ++ drop (length to_come) bs
   pub full : length to_come ≡ n → ending ≡ Clean
   pub clean : ending ≡ Clean → length to_come ≡ n
-  pub early : length bs < n → e ≡ Clean → ending ≡ Broken (record { cause = 6; place = length bs; depth = 0 })
+  pub early : length bs < n → e ≡ Clean → ending ≡ Broken (found 6 (length bs))
   pub broken : (f : Fault) → length bs < n → e ≡ Broken f → ending ≡ Broken (deeper f)
 
 -- the same on examples: the length, the bytes and the ending beneath; the bytes and the ending that the layer then has
@@ -41,7 +43,7 @@ abbrev pub facts : List (ℕ × List ℕ × Ending × List ℕ × Ending)
 facts =
     let abc : List ℕ = 0x41 ∷ 0x42 ∷ 0x43 ∷ [] in
     let fault : ℕ → Ending = λ depth. Broken (record { cause = 9; place = 2; depth = depth }) in
-    (5, abc, Clean, abc, Broken (record { cause = 6; place = 3; depth = 0 }))
+    (5, abc, Clean, abc, Broken (found 6 3))
     ∷ (3, abc, Clean, abc, Clean)
     ∷ (3, abc, fault 0, abc, Clean)
     ∷ (0, [], fault 0, [], Clean)
@@ -63,33 +65,16 @@ Uses coming lacks s n b t =
     × lacks s.beneath n (b && nat_lt (length (coming s.beneath)) s.left) t.beneath
 
 -- once m bytes were given, the bytes beneath fall short of the length as before
-still_short : (bs cs : List ℕ) (left m : ℕ) → m ≤ length bs → m ≤ left → cs ≡ drop m bs → nat_lt (length cs) (left - m) ≡ nat_lt (length bs) left
-still_short bs cs left m p q is = go (cases_lt (length bs) left)
-  where
-    have : length cs ≡ length bs - m
-    have = ap length is ∙ length-drop m bs
+still_short : (bs : List ℕ) (left m : ℕ) → m ≤ length bs → m ≤ left → nat_lt (length (drop m bs)) (left - m) ≡ nat_lt (length bs) left
+still_short bs left m p q = grind (arith, common_steps)
 
-    go : (length bs < left) ⊎ (left ≤ length bs) → nat_lt (length cs) (left - m) ≡ nat_lt (length bs) left
-    go (inl h) = lt-ltb (length cs) (left - m) (omega (arith, have)) ∙ sym (lt-ltb (length bs) left h)
-    go (inr h) = le-ltb (length cs) (left - m) (omega (arith, have)) ∙ sym (le-ltb (length bs) left h)
-
-ends_kept : (bs : List ℕ) (left drawn n : ℕ) (e : Ending) → n ≤ length bs → n ≤ left → ends (left - n) (counted drawn n) (drop n bs) e ≡ ends left drawn bs e
+pub ends_kept : (bs : List ℕ) (left drawn n : ℕ) (e : Ending) → n ≤ length bs → n ≤ left → ends (left - n) (counted drawn n) (drop n bs) e ≡ ends left drawn bs e
 ends_kept bs left drawn n e p q =
-    let place : counted (counted drawn n) (length (drop n bs)) ≡ counted drawn (length bs) = simp length-drop (omega arith) in
-    ap (λ b. cond b (short (counted (counted drawn n) (length (drop n bs))) e) Clean) (still_short bs (drop n bs) left n p q refl)
-    ∙ ap (λ k. cond (nat_lt (length bs) left) (short k e) Clean) place
+    let falls_short = still_short bs left n p q in
+    let place : counted (counted drawn n) (length (drop n bs)) ≡ counted drawn (length bs) = simp length-drop (omega arith) in cc
 
-gives_rest : (bs : List ℕ) (left n : ℕ) → n ≤ left → gives (left - n) (drop n bs) ≡ drop n (gives left bs)
-gives_rest bs left n p = sym (drop-take n (left - n) bs) ∙ ap (λ k. drop n (take k bs)) (omega arith)
-
-gives_none : (bs : List ℕ) (left n : ℕ) → gives left bs ≡ [] → gives (left - n) (drop n bs) ≡ []
-gives_none bs left n none = nil_from_length (gives (left - n) (drop n bs)) (simp (length-take, length-drop) (omega (arith, simp length-take at (ap length none))))
-
-either_and : (a b x : Bool) → (a && x) || (b && x) ≡ (a || b) && x
-either_and true b true = refl
-either_and true true false = refl
-either_and true false false = refl
-either_and false b x = refl
+pub gives_rest : (bs : List ℕ) (left n : ℕ) → n ≤ left → gives (left - n) (drop n bs) ≡ drop n (gives left bs)
+gives_rest bs left n p = let cut = drop-take n (left - n) bs in let all : n + (left - n) ≡ left = omega arith in cc
 
 -- what the layer used adds up, if what the carrier beneath used does
 module _ {C : Type 0} {coming : C → List ℕ} {ending : C → Ending} {lacks : C → ℕ → Bool → C → Type 0} (adds : Adds coming ending lacks) where
@@ -98,38 +83,25 @@ module _ {C : Type 0} {coming : C → List ℕ} {ending : C → Ending} {lacks :
     under : Spent (coming s.beneath) n (b && nat_lt (length (coming s.beneath)) s.left) (coming t.beneath)
     under = adds.spends _ _ n _ h.4
 
-    to_come : gives t.left (coming t.beneath) ≡ gives (s.left - n) (drop n (coming s.beneath))
-    to_come = ap (λ k. gives k (coming t.beneath)) h.1 ∙ ap (gives (s.left - n)) under.1
-
     length_spends : Spent (gives s.left (coming s.beneath)) n b (gives t.left (coming t.beneath))
-    length_spends = (simp length-take (omega (arith, h.0, under.0)), to_come ∙ gives_rest (coming s.beneath) s.left n h.0, h.3)
+    length_spends = let cut = gives_rest (coming s.beneath) s.left n h.0 in (grind (arith, common_steps, under), grind (arith, under), h.3)
 
     length_ends : ends t.left t.drawn (coming t.beneath) (ending t.beneath) ≡ ends s.left s.drawn (coming s.beneath) (ending s.beneath)
     length_ends =
-        let left = h.1 in
-        let drawn = h.2 in
-        let rest = under.1 in
         let same = adds.ends _ _ n _ h.4 in
-        let kept = ends_kept (coming s.beneath) s.left s.drawn n (ending s.beneath) under.0 h.0 in cc
-
-    short_as_before : ltb (length (coming t.beneath)) t.left ≡ nat_lt (length (coming s.beneath)) s.left
-    short_as_before = ap (ltb (length (coming t.beneath))) h.1 ∙ still_short (coming s.beneath) (coming t.beneath) s.left n under.0 h.0 under.1
+        let kept = ends_kept (coming s.beneath) s.left s.drawn n (ending s.beneath) under.0 h.0 in cc under.1
 
   length_joined : (s t u : Length C) (m n : ℕ) (a b : Bool) → Uses coming lacks s m a t → Uses coming lacks t n b u → Uses coming lacks s (m + n) (a || b) u
-  length_joined s t u m n a b p q = (
-    omega (arith, p.0, p.1, q.0),
-    omega (arith, p.0, p.1, q.0, q.1),
-    omega (arith, p.2, q.2),
-    none a b p.3 q.3,
-    subst (λ r. lacks s.beneath (m + n) r u.beneath) reached (adds.joined _ _ _ m n _ _ p.4 q.4),
-  )
-    where
-      none : (a b : Bool) → (a ≡ true → gives t.left (coming t.beneath) ≡ []) → (b ≡ true → gives u.left (coming u.beneath) ≡ []) → a || b ≡ true → gives u.left (coming u.beneath) ≡ []
-      none true b f g told = to_come t u n _ q ∙ gives_none (coming t.beneath) t.left n (f refl)
-      none false b f g told = g told
-
-      reached : (a && nat_lt (length (coming s.beneath)) s.left) || (b && nat_lt (length (coming t.beneath)) t.left) ≡ (a || b) && nat_lt (length (coming s.beneath)) s.left
-      reached = ap (λ x. (a && nat_lt (length (coming s.beneath)) s.left) || (b && x)) (short_as_before s t m a p) ∙ either_and a b _
+  length_joined s t u m n a b p q =
+      let first = under s t m a p in
+      let rest = length_spends t u n b q in
+      let as_short = still_short (coming s.beneath) s.left m first.0 p.0 in (
+        omega arith,
+        omega arith,
+        omega arith,
+        grind (arith, common_steps),
+        subst (λ r. lacks s.beneath (m + n) r u.beneath) (grind (arith, and-or_distrib_right)) (adds.joined _ _ _ m n _ _ p.4 q.4),
+      )
 
   pub length_adds : Adds {S = Length C} (λ s. gives s.left (coming s.beneath)) (λ s. ends s.left s.drawn (coming s.beneath) (ending s.beneath)) (Uses coming lacks)
   length_adds =

@@ -1,10 +1,7 @@
 // The leftover layer: gives the bytes loaded into it, and then those beneath.
-ghost use Rattle.std.specs.Prelude.{◌≡◌, ◌-◌, [], length, Ok, Err};
-ghost use Rattle.layers.specs.Leftovers.{held, gives, loads, refusal_number, LoadedFirst, LoadFacts, Uses, leftover_adds};
-ghost use Rattle.layers.specs.Examples.{ExamplesHold};
-ghost use Rattle.carrier.specs.Passing.{passed};
+ghost use Rattle.std.specs.Prelude.{◌≡◌, ◌≤◌, [], length, OnOk, OnErr};
 
-use carrier::{Carrier, Pulled, passed_on};
+use carrier::{Carrier, Ending, Layer};
 
 // Why bytes are not loaded.
 #[derive(Clone, Copy)]
@@ -15,12 +12,14 @@ pub enum LoadRefusal {
     StillLoaded = 72,
 }
 
-impl LoadRefusal {
-    // The number that it is told by.
-    pub fn number(self) -> u8
-        ensures { result ≡ refusal_number self }
-    {
-        self as u8
+// The number that a refusal is told by.
+impl From<LoadRefusal> for u8 {
+    ghost use Rattle.layers.specs.Leftovers.{refusal_number};
+
+    ghost from_gives = { λ refusal n. n ≡ refusal_number refusal };
+
+    fn from(refusal: LoadRefusal) -> u8 {
+        refusal as u8
     }
 }
 
@@ -34,9 +33,14 @@ pub struct Leftover<C> {
     bytes: [u8; ROOM],
     // where those that are still to be given begin
     at: usize,
+    ghost within: { at ≤ 4096 },
 }
 
 impl<C: Carrier> Leftover<C> {
+    ghost use Rattle.layers.specs.Leftovers.{held, gives, loads, LoadedFirst, LoadFacts};
+    ghost use Rattle.layers.specs.Examples.{ExamplesHold};
+    ghost use Rattle.carrier.specs.Passing.{passed};
+
     // Nothing is loaded.
     pub fn new(beneath: C) -> Leftover<C>
         ensures beneath { result.beneath ≡ beneath }
@@ -55,64 +59,62 @@ impl<C: Carrier> Leftover<C> {
     pub fn load(&mut self, bytes: &[u8]) -> Result<(), LoadRefusal>
         ensures answer { result ≡ loads (length (held self.old)) (length bytes.now) }
         ensures beneath { self.new.beneath ≡ self.old.beneath }
-        ensures loaded { elim result [ Ok _ ↦ (held self.new ≡ bytes.now) × LoadedFirst bytes.now (C.Carrier.coming self.old.beneath) (C.Carrier.ending self.old.beneath) (gives (held self.new) (C.Carrier.coming self.new.beneath)) (passed (C.Carrier.ending self.new.beneath)) | Err _ ↦ self.new ≡ self.old ] }
+        ensures held { OnOk result (held self.new ≡ bytes.now) }
+        ensures loaded { OnOk result (LoadedFirst bytes.now (C.Carrier.coming self.old.beneath) (C.Carrier.ending self.old.beneath) (gives (held self.new) (C.Carrier.coming self.new.beneath)) (passed (C.Carrier.ending self.new.beneath))) }
+        ensures refused { OnErr result (self.new ≡ self.old) }
         ensures facts { LoadFacts }
     {
-        let count = bytes.len();
-        if count > ROOM {
+        if bytes.len() > ROOM {
             return Err(LoadRefusal::TooManyBytes);
         }
-        if self.loaded().len() > 0 {
+        if !self.loaded().is_empty() {
             return Err(LoadRefusal::StillLoaded);
         }
-        let at = ROOM - count;
-        self.bytes[at..ROOM].copy_from_slice(bytes);
-        self.at = at;
+        self.at = ROOM - bytes.len();
+        self.bytes[self.at..].copy_from_slice(bytes);
         Ok(())
-    }
-
-    // The carrier beneath, as it stands; loaded bytes are let go.
-    pub fn lift(self) -> C
-        ensures { result ≡ self.beneath }
-    {
-        let Leftover {
-            beneath,
-            bytes: _,
-            at: _,
-        } = self;
-        beneath
     }
 
     // The loaded bytes that remain.
     fn loaded(&self) -> &[u8]
         ensures { result.now ≡ held self.now }
     {
-        &self.bytes[self.at.min(ROOM)..ROOM]
+        &self.bytes[self.at..]
     }
 }
 
 impl<C: Carrier> Carrier for Leftover<C> {
+    ghost use Rattle.layers.specs.Leftovers.{held, gives, Uses, leftover_adds};
+    ghost use Rattle.carrier.specs.Passing.{passed};
+
     ghost coming = { λ s. gives (held s) (C.Carrier.coming s.beneath) };
 
     ghost ending = { λ s. passed (C.Carrier.ending s.beneath) };
 
     ghost lacks = { Uses C.Carrier.lacks };
 
-    ghost adds = { leftover_adds C.Carrier.adds };
-
-    fn pull(&mut self, out: &mut [u8]) -> Pulled {
+    fn pull(&mut self, out: &mut [u8]) -> Result<usize, Ending> {
         let loaded = self.loaded();
-        if loaded.len() == 0 {
-            return match self.beneath.pull(out) {
-                Pulled::Taken(n) => Pulled::Taken(n),
-                Pulled::Ended => Pulled::Ended,
-                Pulled::Broken(fault) => Pulled::Broken(passed_on(fault)),
-            };
+        if loaded.is_empty() {
+            return self.beneath.pull(out).map_err(Ending::passed_on);
         }
         // only loaded bytes, also where there is room for more
         let n = loaded.len().min(out.len());
-        out[0..n].copy_from_slice(&loaded[0..n]);
+        out[..n].copy_from_slice(&loaded[..n]);
         self.at += n;
-        Pulled::Taken(n)
+        Ok(n)
+    }
+
+    ghost adds = { leftover_adds C.Carrier.adds };
+}
+
+impl<C: Carrier> Layer for Leftover<C> {
+    type Beneath = C;
+
+    ghost beneath = { λ s. s.beneath };
+
+    // The loaded bytes are let go.
+    fn lift(self) -> C {
+        self.beneath
     }
 }

@@ -3,7 +3,7 @@ ghost use Rattle.std.specs.Prelude.{◌≡◌};
 ghost use Rattle.layers.specs.Lengths.{gives, ends, GivesExactlySoMany, LengthFacts, Uses, length_adds};
 ghost use Rattle.layers.specs.Examples.{ExamplesHold};
 
-use carrier::{Carrier, Fault, Pulled, passed_on};
+use carrier::{Carrier, Ending, Fault, Layer};
 
 // What the length layer finds wrong itself.
 #[derive(Clone, Copy)]
@@ -37,18 +37,6 @@ impl<C: Carrier> Length<C> {
             drawn: 0,
         }
     }
-
-    // The carrier beneath, as it stands.
-    pub fn lift(self) -> C
-        ensures { result ≡ self.beneath }
-    {
-        let Length {
-            beneath,
-            left: _,
-            drawn: _,
-        } = self;
-        beneath
-    }
 }
 
 impl<C: Carrier> Carrier for Length<C> {
@@ -58,30 +46,38 @@ impl<C: Carrier> Carrier for Length<C> {
 
     ghost lacks = { Uses C.Carrier.coming C.Carrier.lacks };
 
-    ghost adds = { length_adds C.Carrier.adds };
-
-    fn pull(&mut self, out: &mut [u8]) -> Pulled {
-        let room = out.len();
-        if room == 0 {
-            return Pulled::Taken(0);
+    fn pull(&mut self, out: &mut [u8]) -> Result<usize, Ending> {
+        if out.is_empty() {
+            return Ok(0);
         }
         if self.left == 0 {
-            return Pulled::Ended;
+            return Err(Ending::Clean);
         }
         // no more than the length allows is asked of what is beneath
-        let most = room.min(self.left as usize);
-        match self.beneath.pull(&mut out[0..most]) {
-            Pulled::Taken(n) => {
+        let most = out.len().min(self.left as usize);
+        match self.beneath.pull(&mut out[..most]) {
+            Ok(n) => {
                 self.left -= n as u64;
                 self.drawn = self.drawn.saturating_add(n as u64);
-                Pulled::Taken(n)
+                Ok(n)
             }
-            Pulled::Ended => Pulled::Broken(Fault {
-                cause: LengthCause::EndsEarly as u8,
-                place: self.drawn,
-                depth: 0,
-            }),
-            Pulled::Broken(fault) => Pulled::Broken(passed_on(fault)),
+            Err(Ending::Clean) => {
+                let early = Fault::found(LengthCause::EndsEarly as u8, self.drawn);
+                Err(Ending::Broken(early))
+            }
+            Err(broken) => Err(broken.passed_on()),
         }
+    }
+
+    ghost adds = { length_adds C.Carrier.adds };
+}
+
+impl<C: Carrier> Layer for Length<C> {
+    type Beneath = C;
+
+    ghost beneath = { λ s. s.beneath };
+
+    fn lift(self) -> C {
+        self.beneath
     }
 }
