@@ -1,20 +1,18 @@
 -- The parts of drawing one packet: its fixed fields and its payload.
-use Rattle.std.proofs.Common.{◌≡◌, ℕ, ◌+◌, ◌-◌, ◌<◌, ◌≤◌, min, Bool, true, false, List, [], ◌∷◌, ◌++◌, length, take, drop, Result, sym, refl, ap, ◌∙◌, subst, ⊎_elim, append_assoc, append-nil, arith, length-drop, take-append-drop, length-take}
+use Rattle.std.proofs.Common.{◌≡◌, ℕ, ◌+◌, ◌-◌, ◌<◌, ◌≤◌, min, true, List, [], ◌∷◌, ◌++◌, length, take, drop, Ok, Err, Result, sym, refl, ap, ◌∙◌, ⊎_elim, append_assoc, append-nil, arith, length-drop, take-append-drop, length-take}
 use Rattle.std.proofs.lemmas.List.{drop-drop, drop_all, drop-take, nil_from_length}
 use Rattle.std.proofs.lemmas.Bool.{le-leb, lt-leb, eqb-true, leb-true, cond-true, cond-false, cases_lt}
-use Rattle.carrier.specs.declared.Ending.{Ending}
-use Rattle.carrier.specs.declared.filling.Filled.TheVariants as filled
-use Rattle.carrier.specs.Pulls.{Adds}
+use Rattle.carrier.specs.declared.endings.Ending.{Ending}
+use Rattle.carrier.specs.declared.filling.Short.{Short}
 use Rattle.carrier.specs.Fills.{fills, stretched, used}
 use Rattle.carrier.proofs.Fillings.{full_fill, short_fill}
 use Rattle.packet.specs.declared.wire.Kind.{Kind}
 use Rattle.packet.specs.declared.wire.Kind.TheVariants as kind
 use Rattle.packet.specs.declared.wire.Head.{Head}
 use Rattle.packet.specs.declared.wire.Fields.{Fields}
-use Rattle.packet.specs.declared.grammar.StepFault.{StepFault}
+use Rattle.packet.specs.declared.grammar.PacketFault.{PacketFault}
 use Rattle.packet.specs.Wire.{fixed, lawful, fields_of, framed, head_of}
-use Rattle.receiver.specs.declared.drawing.Drawn.TheVariants as drawn
-use Rattle.receiver.specs.Draws.{draws, front, used as used_drawing, headed, headed_front, headed_used, rest_drawn, rest_used, rest_front, laid_over}
+use Rattle.receiver.specs.Draws.{draws, cut_short, front, used as used_drawing, headed, headed_front, headed_used, rest_drawn, rest_used, rest_front, laid_over}
 
 -- a lawful packet has room for its fixed fields, which are at most eight bytes
 pub fixed_fits : (k : Kind) (n : ℕ) → lawful k n ≡ true → fixed k ≤ n
@@ -86,27 +84,35 @@ lies_over bs w out p fits is =
     ∙ ap (λ l. take p bs ++ l) (under (length bs) p w)
     ∙ ap (λ l. take p bs ++ drop l w) (simp length-take (omega arith))
 
+-- What the second fill, of size bytes for the payload, comes to behind the head h, where n bytes of the bytes bs went into the
+-- fixed fields and cs is to come behind them: too few bytes, or all; the work buffer; and what both fills used.
+pub record BehindFields (h : Head) (bs : List ℕ) (e : Ending) (n : ℕ) (cs : List ℕ) (size : ℕ) : Type 0 where
+  pub short : (cut : Short) → Err cut ≡ fills cs e size → Err (cut_short (4 + n + cut.came) cut.ending) ≡ rest_drawn h bs e
+  pub whole : Ok tt ≡ fills cs e size → (zs ys out : List ℕ) → out ≡ take n bs ++ zs → (fs : Fields) → fs ≡ fields_of h.kind (out ++ ys) → Ok (record { kind = h.kind; length = h.length; fields = fs }) ≡ rest_drawn h bs e
+  pub lies : (w out : List ℕ) (m : ℕ) → m ≡ size → m ≤ length w → out ≡ stretched cs (take m w) → out ++ drop m w ≡ laid_over (rest_front h bs) w
+  pub uses : used bs n + used cs size ≡ rest_used h bs
+
 -- Behind the head h, s has bs to come; the first fill is of n bytes, for the fixed fields.
 module _ (h : Head) (is_lawful : lawful h.kind h.length ≡ true) (bs : List ℕ) (e : Ending) (n : ℕ) (fields : n ≡ fixed h.kind) where
   room : fixed h.kind ≤ h.length
   room = fixed_fits h.kind h.length is_lawful
 
-  too_few : length bs < h.length → rest_drawn h bs e ≡ drawn.Short (4 + length bs) e
+  too_few : length bs < h.length → rest_drawn h bs e ≡ Err (cut_short (4 + length bs) e)
   too_few few = cond-false _ _ _ (lt-leb h.length (length bs) few)
 
   -- the fields are cut short
-  pub short_of_fields : (came : ℕ) (f : Ending) → filled.Short came f ≡ fills bs e n → (drawn.Short (4 + came) f ≡ rest_drawn h bs e) × ((w : List ℕ) → w ≡ laid_over (rest_front h bs) w) × (used bs n ≡ rest_used h bs)
-  short_of_fields came f told =
-      let t = short_fill bs e n came f told in
+  pub short_of_fields : (cut : Short) → Err cut ≡ fills bs e n → (Err (cut_short (4 + cut.came) cut.ending) ≡ rest_drawn h bs e) × ((w : List ℕ) → w ≡ laid_over (rest_front h bs) w) × (used bs n ≡ rest_used h bs)
+  short_of_fields cut told =
+      let t = short_fill bs e n cut told in
       let r = room in
       let nothing : rest_front h bs ≡ [] = nil_from_length (rest_front h bs) (simp (length-take, length-drop) (omega arith)) in (
-        ap (λ x. drawn.Short (4 + x) f) t.1 ∙ ap (drawn.Short (4 + length bs)) t.2 ∙ sym (too_few (omega arith)),
+        ap (λ x. Err (cut_short (4 + x) cut.ending)) t.1 ∙ ap (λ x. Err (cut_short (4 + length bs) x)) t.2 ∙ sym (too_few (omega arith)),
         λ w. sym (ap (λ l. laid_over l w) nothing),
         omega arith,
       )
 
   -- the fields came whole, and cs is to come behind them; the second fill is of size bytes
-  module _ (whole : filled.Full ≡ fills bs e n) (cs : List ℕ) (left : cs ≡ drop (used bs n) bs) (size : ℕ) (payload : size ≡ h.length - fixed h.kind) where
+  module _ (whole : Ok tt ≡ fills bs e n) (cs : List ℕ) (left : cs ≡ drop (used bs n) bs) (size : ℕ) (payload : size ≡ h.length - fixed h.kind) where
     enough : n ≤ length bs
     enough = full_fill bs e n whole
 
@@ -122,14 +128,14 @@ module _ (h : Head) (is_lawful : lawful h.kind h.length ≡ true) (bs : List ℕ
     payload_lies_over : (w out : List ℕ) (m : ℕ) → m ≡ size → m ≤ length w → out ≡ stretched cs (take m w) → out ++ drop m w ≡ laid_over (rest_front h bs) w
     payload_lies_over w out m same fits is = lies_over cs w out m fits is ∙ ap (λ l. laid_over l w) (ap (take m) behind ∙ ap (λ x. take x (drop (fixed h.kind) bs)) (same ∙ payload))
 
-    pub short_of_payload : (came : ℕ) (f : Ending) → filled.Short came f ≡ fills cs e size → drawn.Short (4 + n + came) f ≡ rest_drawn h bs e
-    short_of_payload came f told =
-        let t = short_fill cs e size came f told in
+    short_of_payload : (cut : Short) → Err cut ≡ fills cs e size → Err (cut_short (4 + n + cut.came) cut.ending) ≡ rest_drawn h bs e
+    short_of_payload cut told =
+        let t = short_fill cs e size cut told in
         let g = enough in
         let l = long in
-        ap (λ x. drawn.Short x f) (let z = t.1 in omega arith) ∙ ap (drawn.Short (4 + length bs)) t.2 ∙ sym (too_few (let z = t.0 in omega arith))
+        ap (λ x. Err (cut_short x cut.ending)) (let z = t.1 in omega arith) ∙ ap (λ x. Err (cut_short (4 + length bs) x)) t.2 ∙ sym (too_few (let z = t.0 in omega arith))
 
-    pub whole_packet : filled.Full ≡ fills cs e size → (zs ys out : List ℕ) → out ≡ take n bs ++ zs → (fs : Fields) → fs ≡ fields_of h.kind (out ++ ys) → drawn.Whole (record { kind = h.kind; length = h.length; fields = fs }) ≡ rest_drawn h bs e
+    whole_packet : Ok tt ≡ fills cs e size → (zs ys out : List ℕ) → out ≡ take n bs ++ zs → (fs : Fields) → fs ≡ fields_of h.kind (out ++ ys) → Ok (record { kind = h.kind; length = h.length; fields = fs }) ≡ rest_drawn h bs e
     whole_packet told zs ys out is fs same =
         let t = full_fill cs e size told in
         let g = enough in
@@ -139,28 +145,31 @@ module _ (h : Head) (is_lawful : lawful h.kind h.length ≡ true) (bs : List ℕ
         ∙ ap (λ l. fields_of h.kind (l ++ ys)) (is ∙ ap (λ x. take x bs ++ zs) fields)
         ∙ ap (fields_of h.kind) (append_assoc (take (fixed h.kind) bs) zs ys)
         ∙ fields_front h.kind bs (zs ++ ys) (omega arith) in
-        ap (λ x. drawn.Whole (record { kind = h.kind; length = h.length; fields = x })) read ∙ sym (cond-true _ _ _ (le-leb h.length (length bs) (omega arith)))
+        ap (λ x. Ok (record { kind = h.kind; length = h.length; fields = x })) read ∙ sym (cond-true _ _ _ (le-leb h.length (length bs) (omega arith)))
 
-    -- what the second fill leaves in the work buffer w, and what the carrier then lacks
-    pub payload_drawn : {S : Type 0} {coming : S → List ℕ} {ending : S → Ending} {lacks : S → ℕ → Bool → S → Type 0} → Adds coming ending lacks → (s t u : S) (told : Bool) → lacks s (used bs n) false t → lacks t (used cs size) told u → (w out : List ℕ) (m : ℕ) → m ≡ size → m ≤ length w → out ≡ stretched cs (take m w) → (out ++ drop m w ≡ laid_over (rest_front h bs) w) × lacks s (rest_used h bs) told u
-    payload_drawn {lacks = lacks} adds s t u told first second w out m same fits is = (payload_lies_over w out m same fits is, subst (λ x. lacks s x told u) both_used (adds.joined s t u _ _ false told first second))
+    pub behind_fields : BehindFields h bs e n cs size
+    behind_fields = record { short = short_of_payload; whole = whole_packet; lies = payload_lies_over; uses = both_used }
+
+-- what the head r, or what is wrong with it, makes of drawing
+pub record HeadDrawn (bs : List ℕ) (e : Ending) (r : Result Head PacketFault) : Type 0 where
+  pub draws_on : draws bs e ≡ headed r (drop 4 bs) e
+  pub fronts : front bs ≡ headed_front r (drop 4 bs)
+  pub uses : used_drawing bs ≡ headed_used r (drop 4 bs)
+  pub four : used bs 4 ≡ 4
 
 -- four bytes came, which are the head r or what is wrong with it
-module _ (bs : List ℕ) (e : Ending) (r : Result Head StepFault) (whole : filled.Full ≡ fills bs e 4) (out : List ℕ) (is : out ≡ stretched bs (0 ∷ 0 ∷ 0 ∷ 0 ∷ [])) (reads : r ≡ head_of out) where
+module _ (bs : List ℕ) (e : Ending) (r : Result Head PacketFault) (whole : Ok tt ≡ fills bs e 4) (out : List ℕ) (is : out ≡ stretched bs (0 ∷ 0 ∷ 0 ∷ 0 ∷ [])) (reads : r ≡ head_of out) where
   four : 4 ≤ length bs
   four = full_fill bs e 4 whole
 
   head : head_of (take 4 bs) ≡ r
   head = sym (reads ∙ ap head_of (is ∙ ap (λ l. take 4 bs ++ l) (drop_all (length bs) (0 ∷ 0 ∷ 0 ∷ 0 ∷ []) four) ∙ append-nil (take 4 bs)))
 
-  pub head_draws : draws bs e ≡ headed r (drop 4 bs) e
-  head_draws = cond-true _ _ _ (le-leb 4 (length bs) four) ∙ ap (λ x. headed x (drop 4 bs) e) head
-
-  pub head_front : front bs ≡ headed_front r (drop 4 bs)
-  head_front = cond-true _ _ _ (le-leb 4 (length bs) four) ∙ ap (λ x. headed_front x (drop 4 bs)) head
-
-  pub head_used : used_drawing bs ≡ headed_used r (drop 4 bs)
-  head_used = cond-true _ _ _ (le-leb 4 (length bs) four) ∙ ap (λ x. headed_used x (drop 4 bs)) head
-
-  pub four_used : used bs 4 ≡ 4
-  four_used = let f = four in omega arith
+  pub head_drawn : HeadDrawn bs e r
+  head_drawn =
+      record {
+        draws_on = cond-true _ _ _ (le-leb 4 (length bs) four) ∙ ap (λ x. headed x (drop 4 bs) e) head;
+        fronts = cond-true _ _ _ (le-leb 4 (length bs) four) ∙ ap (λ x. headed_front x (drop 4 bs)) head;
+        uses = cond-true _ _ _ (le-leb 4 (length bs) four) ∙ ap (λ x. headed_used x (drop 4 bs)) head;
+        four = let f = four in omega arith;
+      }

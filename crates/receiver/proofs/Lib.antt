@@ -1,3 +1,5 @@
 mod Draws
 pub mod Uses
 mod Passing
+pub mod Granted
+pub mod Fronts

@@ -1,6 +1,7 @@
 -- A Pass, one Step at a time.
-use Rattle.std.proofs.Common.{◌≡◌, ℕ, zero, suc, ◌+◌, ◌<◌, Bool, false, List, length, drop, sym, refl, ap, ◌∙◌, subst, arith, length-drop}
-use Rattle.carrier.specs.declared.Ending.{Ending}
+use Rattle.std.proofs.Common.{◌≡◌, ℕ, zero, suc, ◌+◌, ◌<◌, false, List, length, drop, Some, None, Option, sym, refl, ap, ◌∙◌, subst, suc-ne-zero, arith, length-drop}
+use Rattle.carrier.specs.declared.endings.Ending.{Ending}
+use Rattle.carrier.specs.declared.Carrier.{Ghosts}
 use Rattle.carrier.specs.Pulls.{Adds}
 use Rattle.packet.specs.declared.grammar.Event.{Event}
 use Rattle.packet.specs.Judging.{stopped}
@@ -8,30 +9,29 @@ use Rattle.receiver.specs.declared.answers.Answer.{Answer}
 use Rattle.receiver.specs.declared.answers.Answer.TheVariants as answer
 use Rattle.receiver.specs.declared.answers.Counted.{Counted}
 use Rattle.receiver.specs.declared.answers.Counted.TheVariants as counted
+use Rattle.receiver.specs.declared.receiving.Receiver.{Receiver}
 use Rattle.receiver.specs.declared.standings.Standing.{Standing}
 use Rattle.receiver.specs.Draws.{used, laid_over}
-use Rattle.receiver.specs.Steps.{steps, reading_used, reading_told, reading_front}
-use Rattle.receiver.specs.Passes.{counts, passing, passes_from, by_count, stopping, PassRun, PassesAs}
+use Rattle.receiver.specs.Steps.{steps, advanced, reading_used, reading_told, reading_front, advance_usage}
+use Rattle.receiver.specs.Views.{view, Moved}
+use Rattle.receiver.specs.Passes.{counts, passing, passes_from, by_count, stopping, PassRun}
 use Rattle.receiver.proofs.Uses.{event_uses, event_reads}
 
-different : ◌≡◌ {A = ℕ} 0 1 → ⊥
-different e = omega arith
+pub other_delivered : (c : Option Counted) → c ≡ Some counted.Delivered → c ≡ None → ⊥
+other_delivered c is o = suc-ne-zero 0 (cc)
 
-pub other_delivered : (c : Counted) → c ≡ counted.Delivered → c ≡ counted.Other → ⊥
-other_delivered c is o = different (cc)
-
-pub other_stale : (c : Counted) → c ≡ counted.Stale → c ≡ counted.Other → ⊥
-other_stale c is o = different (cc)
+pub other_stale : (c : Option Counted) → c ≡ Some counted.Stale → c ≡ None → ⊥
+other_stale c is o = suc-ne-zero 0 (cc)
 
 -- what counts as a data packet is an event
-event_counts : (a : Answer) → (counts a ≡ counted.Other → ⊥) → (ev : Event) × (a ≡ answer.Event ev)
+event_counts : (a : Answer) → (counts a ≡ None → ⊥) → (ev : Event) × (a ≡ answer.Event ev)
 event_counts (answer.Event ev) so = (ev, refl)
 event_counts (answer.End place) so = absurd (so refl)
 event_counts (answer.Failed f) so = absurd (so refl)
 
 module _ (s : Standing) (bs : List ℕ) (e : Ending) where
   -- a data packet uses at least four bytes
-  pub data_uses : (counts (steps s bs e).answer ≡ counted.Other → ⊥) → length (drop (used bs) bs) < length bs
+  pub data_uses : (counts (steps s bs e).answer ≡ None → ⊥) → length (drop (used bs) bs) < length bs
   data_uses counted_data =
       let (ev, is) = event_counts (steps s bs e).answer counted_data in
       let u = event_uses s bs e ev is in
@@ -49,55 +49,85 @@ passing_enough (suc k) zero s bs e w d t u h i = absurd (omega arith)
 passing_enough (suc k) (suc m) s bs e w d t u h i =
     go (λ less d' t'. passing_enough k m (steps s bs e).standing (drop (used bs) bs) e (laid_over (reading_front s.progress bs) w) d' t' (u + reading_used s.progress bs) (omega arith) (omega arith)) (counts (steps s bs e).answer) refl
   where
-    go : (length (drop (used bs) bs) < length bs → (d' t' : ℕ) → next k s bs e w d' t' u ≡ next m s bs e w d' t' u) → (c : Counted) → counts (steps s bs e).answer ≡ c
+    go : (length (drop (used bs) bs) < length bs → (d' t' : ℕ) → next k s bs e w d' t' u ≡ next m s bs e w d' t' u) → (c : Option Counted) → counts (steps s bs e).answer ≡ c
         → by_count c (next k s bs e w (stopped (d + 1)) t u) (next k s bs e w d (stopped (t + 1)) u) (stopping s bs e w d t u) ≡ by_count c (next m s bs e w (stopped (d + 1)) t u) (next m s bs e w d (stopped (t + 1)) u) (stopping s bs e w d t u)
-    go more counted.Delivered is = more (data_uses s bs e (λ o. different (cc))) (stopped (d + 1)) t
-    go more counted.Stale is = more (data_uses s bs e (λ o. different (cc))) d (stopped (t + 1))
-    go more counted.Other is = refl
+    go more (Some counted.Delivered) is = more (data_uses s bs e (λ o. suc-ne-zero 0 (cc))) (stopped (d + 1)) t
+    go more (Some counted.Stale) is = more (data_uses s bs e (λ o. suc-ne-zero 0 (cc))) d (stopped (t + 1))
+    go more None is = refl
 
--- One Step of a Pass: c₀ has given u bytes and is now c; the Step left d, the standing t and the work buffer x.
-module _ {S : Type 0} {coming : S → List ℕ} {ending : S → Ending} {lacks : S → ℕ → Bool → S → Type 0} (adds : Adds coming ending lacks) (c₀ c d : S) (s t : Standing) (w x : List ℕ) (n m u : ℕ) (gave : lacks c₀ u false c) (stands : t ≡ (steps s (coming c) (ending c)).standing) (lies : x ≡ laid_over (reading_front s.progress (coming c)) w) (gives : lacks c (reading_used s.progress (coming c)) (reading_told s.progress (coming c) (ending c)) d) where
-  -- at a data packet, with the counts that it leads to
-  module _ (counted_data : counts (steps s (coming c) (ending c)).answer ≡ counted.Other → ⊥) where
-    reads : (reading_used s.progress (coming c) ≡ used (coming c)) × (reading_told s.progress (coming c) (ending c) ≡ false)
-    reads = let (ev, is) = event_counts (steps s (coming c) (ending c)).answer counted_data in event_reads s (coming c) (ending c) ev is
+-- what a receiver is still to pass over with the work buffer w, once n data packets were delivered, k were stale and u bytes used
+abbrev pub from_here : {C : Type 0} → Ghosts C → Receiver C → List ℕ → ℕ → ℕ → ℕ → PassRun
+from_here m r w n k u = passes_from r.standing (m.coming r.carrier) (m.ending r.carrier) w n k u
 
-    left : coming d ≡ drop (used (coming c)) (coming c)
-    left = (adds.spends c d _ _ gives).1 ∙ ap (λ k. drop k (coming c)) reads.0
+-- t is the receiver r, whose carrier gave u bytes and has not told its ending
+abbrev pub Gave : {C : Type 0} → Ghosts C → Receiver C → ℕ → Receiver C → Type 0
+Gave m r u t = Moved m r t.standing (record { bytes = u; told = false }) t
 
-    pub fewer : length (coming d) < length (coming c)
-    fewer = let l = ap length left in let h = data_uses s (coming c) (ending c) counted_data in omega arith
+-- one Step of a Pass leads from the receiver r to t
+module _ {C : Type 0} (m : Ghosts C) (adds : Adds m.coming m.ending m.lacks) (r t : Receiver C) (to : Moved m r (advanced (view m r)).standing (advance_usage (view m r)) t) where
+  abbrev s : Standing
+  s = r.standing
 
-    pub so_far : lacks c₀ (u + reading_used s.progress (coming c)) false d
-    so_far = subst (λ b. lacks c₀ (u + reading_used s.progress (coming c)) b d) reads.1 (adds.joined c₀ c d u _ false _ gave gives)
+  abbrev bs : List ℕ
+  bs = m.coming r.carrier
 
-    pub goes_on_passing : (n' m' : ℕ)
-        → passes_from s (coming c) (ending c) w n m u ≡ next (length (coming c)) s (coming c) (ending c) w n' m' u
-        → passes_from t (coming d) (ending d) x n' m' (u + reading_used s.progress (coming c)) ≡ passes_from s (coming c) (ending c) w n m u
-    goes_on_passing n' m' is =
-        passing_enough (suc (length (coming d))) (length (coming c)) t (coming d) (ending d) x n' m' _ (omega arith) fewer
-        ∙ ap (λ y. passing (length (coming c)) y (coming d) (ending d) x n' m' (u + reading_used s.progress (coming c))) stands
-        ∙ ap (λ y. passing (length (coming c)) (steps s (coming c) (ending c)).standing y (ending d) x n' m' (u + reading_used s.progress (coming c))) left
-        ∙ ap (λ y. passing (length (coming c)) (steps s (coming c) (ending c)).standing (drop (used (coming c)) (coming c)) y x n' m' (u + reading_used s.progress (coming c))) (adds.ends c d _ _ gives)
-        ∙ ap (λ y. passing (length (coming c)) (steps s (coming c) (ending c)).standing (drop (used (coming c)) (coming c)) (ending c) y n' m' (u + reading_used s.progress (coming c))) lies
-        ∙ sym is
+  abbrev e : Ending
+  e = m.ending r.carrier
 
-  -- a delivered packet and a stale one count one more each
-  module _ (total : PassRun) (whole : passes_from s (coming c) (ending c) w n m u ≡ total) where
-    pub delivered_turn : counts (steps s (coming c) (ending c)).answer ≡ counted.Delivered → (n' : ℕ) → n' ≡ stopped (n + 1) → (v : ℕ) × lacks c₀ v false d × (passes_from t (coming d) (ending d) x n' m v ≡ total)
-    delivered_turn is n' more =
-        let so = other_delivered _ is in
-        (_, so_far so, goes_on_passing so n' m (ap (λ k. by_count k (next (length (coming c)) s (coming c) (ending c) w (stopped (n + 1)) m u) (next (length (coming c)) s (coming c) (ending c) w n (stopped (m + 1)) u) (stopping s (coming c) (ending c) w n m u)) is ∙ ap (λ k. next (length (coming c)) s (coming c) (ending c) w k m u) (sym more)) ∙ whole)
+  -- at a data packet
+  module _ (counted_data : counts (steps s bs e).answer ≡ None → ⊥) where
+    reads : (reading_used s.progress bs ≡ used bs) × (reading_told s.progress bs e ≡ false)
+    reads = let (ev, is) = event_counts (steps s bs e).answer counted_data in event_reads s bs e ev is
 
-    pub stale_turn : counts (steps s (coming c) (ending c)).answer ≡ counted.Stale → (m' : ℕ) → m' ≡ stopped (m + 1) → (v : ℕ) × lacks c₀ v false d × (passes_from t (coming d) (ending d) x n m' v ≡ total)
-    stale_turn is m' more =
-        let so = other_stale _ is in
-        (_, so_far so, goes_on_passing so n m' (ap (λ k. by_count k (next (length (coming c)) s (coming c) (ending c) w (stopped (n + 1)) m u) (next (length (coming c)) s (coming c) (ending c) w n (stopped (m + 1)) u) (stopping s (coming c) (ending c) w n m u)) is ∙ ap (λ k. next (length (coming c)) s (coming c) (ending c) w n k u) (sym more)) ∙ whole)
+    left : m.coming t.carrier ≡ drop (used bs) bs
+    left = (adds.spends r.carrier t.carrier _ _ to.lacks).1 ∙ ap (λ j. drop j bs) reads.0
+
+    pub fewer : length (m.coming t.carrier) < length bs
+    fewer = let l = ap length left in let h = data_uses s bs e counted_data in omega arith
+
+  -- r₀'s carrier gave u bytes before the Step; n and k were counted so far; the Step finds the work buffer w and leaves x
+  module _ (r₀ : Receiver C) (w x : List ℕ) (n k u : ℕ) (gave : Gave m r₀ u r) (lies : x ≡ laid_over (reading_front s.progress bs) w) (total : PassRun) (whole : from_here m r w n k u ≡ total) where
+    abbrev on : ℕ → ℕ → PassRun
+    on n' k' = next (length bs) s bs e w n' k' u
+
+    abbrev stop : PassRun
+    stop = stopping s bs e w n k u
+
+    -- what the answer counts as decides how the Pass goes on
+    decided : (c : Option Counted) → counts (steps s bs e).answer ≡ c → by_count c (on (stopped (n + 1)) k) (on n (stopped (k + 1))) stop ≡ total
+    decided c is = sym (ap (λ y. by_count y (on (stopped (n + 1)) k) (on n (stopped (k + 1))) stop) is) ∙ whole
+
+    lacked : m.lacks r₀.carrier (u + reading_used s.progress bs) (reading_told s.progress bs e) t.carrier
+    lacked = adds.joined r₀.carrier r.carrier t.carrier u _ false _ gave.lacks to.lacks
+
+    abbrev GoesOn : ℕ → ℕ → Type 0
+    GoesOn n' k' = (v : ℕ) × Gave m r₀ v t × (from_here m t x n' k' v ≡ total)
+
+    goes_on_passing : (counts (steps s bs e).answer ≡ None → ⊥) → (n' k' : ℕ) → on n' k' ≡ total → GoesOn n' k'
+    goes_on_passing so n' k' is =
+        let v = u + reading_used s.progress bs in (
+          v,
+          record { standing = refl; number = to.number ∙ gave.number; lacks = subst (λ b. m.lacks r₀.carrier v b t.carrier) (reads so).1 lacked },
+          passing_enough (suc (length (m.coming t.carrier))) (length bs) t.standing _ _ x n' k' v (omega arith) (fewer so)
+              ∙ ap (λ y. passing (length bs) y (m.coming t.carrier) (m.ending t.carrier) x n' k' v) to.standing
+              ∙ ap (λ y. passing (length bs) (steps s bs e).standing y (m.ending t.carrier) x n' k' v) (left so)
+              ∙ ap (λ y. passing (length bs) (steps s bs e).standing (drop (used bs) bs) y x n' k' v) (adds.ends r.carrier t.carrier _ _ to.lacks)
+              ∙ ap (λ y. passing (length bs) (steps s bs e).standing (drop (used bs) bs) e y n' k' v) lies
+              ∙ is,
+        )
+
+    -- a delivered packet and a stale one count one more each
+    pub delivered_turn : counts (steps s bs e).answer ≡ Some counted.Delivered → (n' : ℕ) → n' ≡ stopped (n + 1) → GoesOn n' k
+    delivered_turn is n' more = goes_on_passing (other_delivered _ is) n' k (ap (λ y. on y k) more ∙ decided (Some counted.Delivered) is)
+
+    pub stale_turn : counts (steps s bs e).answer ≡ Some counted.Stale → (k' : ℕ) → k' ≡ stopped (k + 1) → GoesOn n k'
+    stale_turn is k' more = goes_on_passing (other_stale _ is) n k' (ap (on n) more ∙ decided (Some counted.Stale) is)
 
     -- anything else ends the Pass
-    pub last_turn : counts (steps s (coming c) (ending c)).answer ≡ counted.Other → (a : Answer) → a ≡ (steps s (coming c) (ending c)).answer → PassesAs total (record { answer = a; delivered = n; stale = m }) t x × lacks c₀ total.used_bytes total.told d
+    pub last_turn : counts (steps s bs e).answer ≡ None → (a : Answer) → a ≡ (steps s bs e).answer → (record { answer = a; delivered = n; stale = k } ≡ total.passed) × (x ≡ total.buffer) × Moved m r₀ total.standing total.usage t
     last_turn is a told =
-        let stops : stopping s (coming c) (ending c) w n m u ≡ total = sym (ap (λ k. by_count k (next (length (coming c)) s (coming c) (ending c) w (stopped (n + 1)) m u) (next (length (coming c)) s (coming c) (ending c) w n (stopped (m + 1)) u) (stopping s (coming c) (ending c) w n m u)) is) ∙ whole in (
-          record { answer = ap (λ y. record { answer = y; delivered = n; stale = m }) told ∙ ap (λ y. y.passed) stops; standing = stands ∙ ap (λ y. y.standing) stops; buffer = lies ∙ ap (λ y. y.buffer) stops },
-          subst (λ y. lacks c₀ y.used_bytes y.told d) stops (adds.joined c₀ c d u _ false _ gave gives),
+        let stops = decided None is in (
+          ap (λ y. record { answer = y; delivered = n; stale = k }) told ∙ ap (λ y. y.passed) stops,
+          lies ∙ ap (λ y. y.buffer) stops,
+          subst (λ (y : PassRun). Moved m r₀ y.standing y.usage t) stops (record { standing = to.standing; number = to.number ∙ gave.number; lacks = lacked }),
         )

@@ -1,3 +1,4 @@
 pub mod Draws
+pub mod Views
 pub mod Steps
 pub mod Passes

@@ -1,6 +1,6 @@
 -- What Pass answers, and where it leaves a receiver.
-use Rattle.std.specs.Prelude.{◌≡◌, ℕ, zero, suc, ◌+◌, Bool, false, cond, ◌&&◌, List, length, drop, Ok, Err, Result, nat_le}
-use Rattle.carrier.specs.declared.Ending.{Ending}
+use Rattle.std.specs.Prelude.{ℕ, zero, suc, ◌+◌, Bool, cond, ◌&&◌, List, length, drop, Some, None, Ok, Err, Option, Result, nat_le}
+use Rattle.carrier.specs.declared.endings.Ending.{Ending}
 use Rattle.packet.specs.declared.grammar.Letter.{Letter}
 use Rattle.packet.specs.declared.grammar.Letter.TheVariants as letter
 use Rattle.packet.specs.Judging.{stopped}
@@ -13,31 +13,31 @@ use Rattle.receiver.specs.declared.answers.PassRefusal.{PassRefusal}
 use Rattle.receiver.specs.declared.answers.PassRefusal.TheVariants as refusal
 use Rattle.receiver.specs.declared.standings.Standing.{Standing}
 use Rattle.receiver.specs.Draws.{used, laid_over}
+use Rattle.receiver.specs.Views.{View, Usage, unused}
 use Rattle.receiver.specs.Steps.{steps, headed, work_length, reading_used, reading_told, reading_front}
 
--- what a packet counts as by its letter
-abbrev letter_counts : Letter → Counted
-letter_counts letter.StreamChange = counted.Other
-letter_counts letter.Data = counted.Delivered
-letter_counts letter.EndOfStream = counted.Other
-letter_counts letter.Header = counted.Other
-letter_counts letter.Metadata = counted.Other
-letter_counts letter.PacketPair = counted.Other
-letter_counts letter.Stale = counted.Stale
+-- what a packet counts as by its letter, if it is a data packet
+abbrev letter_counts : Letter → Option Counted
+letter_counts letter.StreamChange = None
+letter_counts letter.Data = Some counted.Delivered
+letter_counts letter.EndOfStream = None
+letter_counts letter.Header = None
+letter_counts letter.Metadata = None
+letter_counts letter.PacketPair = None
+letter_counts letter.Stale = Some counted.Stale
 
--- what an answer counts as in a Pass
-abbrev pub counts : Answer → Counted
+-- what an answer counts as in a Pass, if it tells a data packet
+abbrev pub counts : Answer → Option Counted
 counts (answer.Event e) = letter_counts e.letter
-counts (answer.End place) = counted.Other
-counts (answer.Failed f) = counted.Other
+counts (answer.End place) = None
+counts (answer.Failed f) = None
 
 -- what a Pass answers, where it leaves the receiver and the work buffer, and what it used of the carrier
 pub record PassRun : Type 0 where
   pub passed : Passed
   pub standing : Standing
   pub buffer : List ℕ
-  pub used_bytes : ℕ
-  pub told : Bool
+  pub usage : Usage
 
 -- the Step that ends a Pass
 abbrev pub stopping : Standing → List ℕ → Ending → List ℕ → ℕ → ℕ → ℕ → PassRun
@@ -46,15 +46,14 @@ stopping s bs e w d t u =
       passed = record { answer = (steps s bs e).answer; delivered = d; stale = t };
       standing = (steps s bs e).standing;
       buffer = laid_over (reading_front s.progress bs) w;
-      used_bytes = u + reading_used s.progress bs;
-      told = reading_told s.progress bs e;
+      usage = record { bytes = u + reading_used s.progress bs; told = reading_told s.progress bs e };
     }
 
 -- a Pass goes on behind a delivered packet or a stale one, and stops at anything else
-abbrev pub by_count : Counted → PassRun → PassRun → PassRun → PassRun
-by_count counted.Delivered d t o = d
-by_count counted.Stale d t o = t
-by_count counted.Other d t o = o
+abbrev pub by_count : Option Counted → PassRun → PassRun → PassRun → PassRun
+by_count (Some counted.Delivered) d t o = d
+by_count (Some counted.Stale) d t o = t
+by_count None d t o = o
 
 -- At most so many Steps, from the standing s, with bs to come and the work buffer w, once d data packets were delivered, t were stale and u bytes used.
 abbrev pub passing : ℕ → Standing → List ℕ → Ending → List ℕ → ℕ → ℕ → ℕ → PassRun
@@ -69,14 +68,8 @@ passing (suc k) s bs e w d t u =
 abbrev pub passes_from : Standing → List ℕ → Ending → List ℕ → ℕ → ℕ → ℕ → PassRun
 passes_from s bs e w d t u = passing (suc (length bs)) s bs e w d t u
 
-abbrev pub passes : Standing → List ℕ → Ending → List ℕ → PassRun
-passes s bs e w = passes_from s bs e w 0 0 0
-
--- what a granted Pass answers and leaves
-pub record PassesAs (run : PassRun) (r : Passed) (s : Standing) (w : List ℕ) : Type 0 where
-  pub answer : r ≡ run.passed
-  pub standing : s ≡ run.standing
-  pub buffer : w ≡ run.buffer
+abbrev pub passes : View → List ℕ → PassRun
+passes v w = passes_from v.standing v.coming v.ending w 0 0 0
 
 -- the numbers of Pass's refusals
 abbrev pub pass_refusal_number : PassRefusal → ℕ
@@ -88,17 +81,14 @@ abbrev pub grants : Standing → ℕ → Bool
 grants s room = nat_le work_length room && headed s
 
 -- Pass's answer with the work buffer w, where it leaves the receiver and the buffer, and what it uses of the carrier
-abbrev pub passed : Standing → List ℕ → Ending → List ℕ → Result Passed PassRefusal
-passed s bs e w = cond (nat_le work_length (length w)) (cond (headed s) (Ok (passes s bs e w).passed) (Err refusal.NoHeaderInForce)) (Err refusal.ShortWorkBuffer)
+abbrev pub passed : View → List ℕ → Result Passed PassRefusal
+passed v w = cond (nat_le work_length (length w)) (cond (headed v.standing) (Ok (passes v w).passed) (Err refusal.NoHeaderInForce)) (Err refusal.ShortWorkBuffer)
 
-abbrev pub pass_standing : Standing → List ℕ → Ending → List ℕ → Standing
-pass_standing s bs e w = cond (grants s (length w)) (passes s bs e w).standing s
+abbrev pub pass_standing : View → List ℕ → Standing
+pass_standing v w = cond (grants v.standing (length w)) (passes v w).standing v.standing
 
-abbrev pub pass_buffer : Standing → List ℕ → Ending → List ℕ → List ℕ
-pass_buffer s bs e w = cond (grants s (length w)) (passes s bs e w).buffer w
+abbrev pub pass_buffer : View → List ℕ → List ℕ
+pass_buffer v w = cond (grants v.standing (length w)) (passes v w).buffer w
 
-abbrev pub pass_used : Standing → List ℕ → Ending → List ℕ → ℕ
-pass_used s bs e w = cond (grants s (length w)) (passes s bs e w).used_bytes 0
-
-abbrev pub pass_told : Standing → List ℕ → Ending → List ℕ → Bool
-pass_told s bs e w = cond (grants s (length w)) (passes s bs e w).told false
+abbrev pub pass_usage : View → List ℕ → Usage
+pass_usage v w = cond (grants v.standing (length w)) (passes v w).usage unused

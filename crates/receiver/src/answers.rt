@@ -1,10 +1,10 @@
 // What Step and Pass answer.
 ghost use Rattle.std.specs.Prelude.{◌≡◌};
 ghost use Rattle.receiver.specs.Passes.{counts, pass_refusal_number};
-ghost use Rattle.receiver.specs.Steps.{step_refusal_number};
+ghost use Rattle.receiver.specs.Steps.{step_fault_number, step_refusal_number};
 
 use carrier::Fault;
-use packet::{Event, Letter, StepFault};
+use packet::{Event, Letter, PacketFault};
 
 // Why a Step is refused; nothing is altered then.
 #[derive(Clone, Copy)]
@@ -12,12 +12,35 @@ pub enum StepRefusal {
     ShortWorkBuffer = 11, // the only one
 }
 
-impl StepRefusal {
-    // The number that it is told by.
-    pub fn number(self) -> u8
-        ensures { result ≡ step_refusal_number self }
-    {
-        self as u8
+impl From<StepRefusal> for u8 {
+    ghost from_gives = { λ refusal number. number ≡ step_refusal_number refusal };
+
+    fn from(refusal: StepRefusal) -> u8 {
+        refusal as u8
+    }
+}
+
+// What Step finds wrong.
+#[derive(Clone, Copy)]
+pub enum StepFault {
+    // a packet, or its head, is not as it should be
+    Packet(PacketFault),
+    // a clean end inside a packet, or where the body may not end
+    EndsEarly,
+    // the carrier broke off: its own fault, whole
+    CarrierBroke(Fault),
+}
+
+// The number that a fault is told by.
+impl From<StepFault> for u8 {
+    ghost from_gives = { λ fault number. number ≡ step_fault_number fault };
+
+    fn from(fault: StepFault) -> u8 {
+        match fault {
+            StepFault::Packet(fault) => u8::from(fault),
+            StepFault::EndsEarly => 28,
+            StepFault::CarrierBroke(_) => 29,
+        }
     }
 }
 
@@ -27,8 +50,6 @@ pub struct Failure {
     pub fault: StepFault,
     // the packet's first byte; for `EndsEarly` and `CarrierBroke` the body bytes drawn
     pub place: u64,
-    // the carrier's own fault, for `CarrierBroke`
-    pub carrier: Option<Fault>,
 }
 
 #[derive(Clone, Copy)]
@@ -46,12 +67,11 @@ pub enum PassRefusal {
     NoHeaderInForce = 12,
 }
 
-impl PassRefusal {
-    // The number that it is told by.
-    pub fn number(self) -> u8
-        ensures { result ≡ pass_refusal_number self }
-    {
-        self as u8
+impl From<PassRefusal> for u8 {
+    ghost from_gives = { λ refusal number. number ≡ pass_refusal_number refusal };
+
+    fn from(refusal: PassRefusal) -> u8 {
+        refusal as u8
     }
 }
 
@@ -63,27 +83,27 @@ pub struct Passed {
     pub stale: u64,
 }
 
-// What an answer counts as in a Pass.
+// What a Pass counts a data packet as.
 #[derive(Clone, Copy)]
 pub enum Counted {
     Delivered,
     Stale,
-    Other,
 }
 
-pub fn counted_as(answer: Answer) -> Counted
+// What an answer counts as in a Pass; None where it tells no data packet.
+pub fn counted_as(answer: Answer) -> Option<Counted>
     ensures { result ≡ counts answer }
 {
-    match answer {
-        Answer::Event(event) => match event.letter {
-            Letter::Data => Counted::Delivered,
-            Letter::Stale => Counted::Stale,
-            Letter::StreamChange
-            | Letter::EndOfStream
-            | Letter::Header
-            | Letter::Metadata
-            | Letter::PacketPair => Counted::Other,
-        },
-        Answer::End(_) | Answer::Failed(_) => Counted::Other,
+    let Answer::Event(event) = answer else {
+        return None;
+    };
+    match event.letter {
+        Letter::Data => Some(Counted::Delivered),
+        Letter::Stale => Some(Counted::Stale),
+        Letter::StreamChange
+        | Letter::EndOfStream
+        | Letter::Header
+        | Letter::Metadata
+        | Letter::PacketPair => None,
     }
 }

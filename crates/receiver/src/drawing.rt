@@ -2,55 +2,80 @@
 // Its fixed fields go into an array, its payload straight to the front of the work buffer.
 ghost use Rattle.std.specs.Prelude.{◌≡◌, ◌≤◌, true, length};
 ghost use Rattle.packet.specs.Wire.{lawful};
+ghost use Rattle.receiver.specs.declared.drawing.NoPacket.TheVariants.{BadHead, CutShort};
 ghost use Rattle.receiver.specs.Draws.{draws, rest_drawn, used, rest_used, ran_out, front, rest_front, laid_over};
 
-use carrier::{Carrier, Ending, Filled, fill};
-use packet::{Head, Packet, StepFault, fields_of, fixed_length, read_head};
+use super::receiving::WORK_LENGTH;
+use carrier::{Carrier, Short, fill};
+use packet::{Head, Packet, PacketFault, fields_of, fixed_length, read_head};
 
+// What comes in place of a packet.
 #[derive(Clone, Copy)]
-pub enum Drawn {
-    // a packet, whole, its payload in front of the work buffer
-    Whole(Packet),
+pub enum NoPacket {
     // four bytes that are no packet's head
-    BadHead(StepFault),
-    // the bytes came to this ending after so many
-    Short(usize, Ending),
+    BadHead(PacketFault),
+    // an ending, behind fewer bytes than a packet has
+    CutShort(Short),
 }
 
-pub(crate) fn draw<C: Carrier>(carrier: &mut C, work: &mut [u8]) -> Drawn
-    requires { 65535 ≤ length work.old }
+impl From<PacketFault> for NoPacket {
+    ghost from_gives = { λ fault gives. gives ≡ BadHead fault };
+
+    fn from(fault: PacketFault) -> NoPacket {
+        NoPacket::BadHead(fault)
+    }
+}
+
+impl From<Short> for NoPacket {
+    ghost from_gives = { λ short gives. gives ≡ CutShort short };
+
+    fn from(short: Short) -> NoPacket {
+        NoPacket::CutShort(short)
+    }
+}
+
+// The packet that comes next, its payload in front of the work buffer.
+pub(crate) fn draw<C: Carrier>(
+    carrier: &mut C,
+    work: &mut [u8; WORK_LENGTH],
+) -> Result<Packet, NoPacket>
     ensures answer { result ≡ draws (C.Carrier.coming carrier.old) (C.Carrier.ending carrier.old) }
     ensures buffer { work.new ≡ laid_over (front (C.Carrier.coming carrier.old)) work.old }
     ensures lacks { C.Carrier.lacks carrier.old (used (C.Carrier.coming carrier.old)) (ran_out result) carrier.new }
 {
-    let mut head = [0u8; 4];
-    match fill(carrier, &mut head) {
-        Filled::Short(came, ending) => Drawn::Short(came, ending),
-        Filled::Full => match read_head(head) {
-            Err(fault) => Drawn::BadHead(fault),
-            Ok(head) => draw_rest(carrier, head, work),
-        },
-    }
+    let mut head = [0; 4];
+    fill(carrier, &mut head)?;
+    let head = read_head(head)?;
+    draw_rest(carrier, head, work)
 }
 
 // What is behind the head.
-fn draw_rest<C: Carrier>(carrier: &mut C, head: Head, work: &mut [u8]) -> Drawn
-    requires room { 65535 ≤ length work.old }
-    requires lawful { lawful head.kind head.length ≡ true }
+fn draw_rest<C: Carrier>(
+    carrier: &mut C,
+    head: Head,
+    work: &mut [u8; WORK_LENGTH],
+) -> Result<Packet, NoPacket>
+    requires { lawful head.kind head.length ≡ true }
     ensures answer { result ≡ rest_drawn head (C.Carrier.coming carrier.old) (C.Carrier.ending carrier.old) }
     ensures buffer { work.new ≡ laid_over (rest_front head (C.Carrier.coming carrier.old)) work.old }
     ensures lacks { C.Carrier.lacks carrier.old (rest_used head (C.Carrier.coming carrier.old)) (ran_out result) carrier.new }
 {
     let fixed = fixed_length(head.kind) as usize;
-    let mut bytes = [0u8; 8];
-    if let Filled::Short(came, ending) = fill(carrier, &mut bytes[0..fixed]) {
-        return Drawn::Short(4 + came, ending);
+    let mut bytes = [0; 8];
+    if let Err(short) = fill(carrier, &mut bytes[0..fixed]) {
+        return Err(NoPacket::CutShort(Short {
+            came: 4 + short.came,
+            ending: short.ending,
+        }));
     }
     let payload = head.length as usize - fixed;
-    if let Filled::Short(came, ending) = fill(carrier, &mut work[0..payload]) {
-        return Drawn::Short(4 + fixed + came, ending);
+    if let Err(short) = fill(carrier, &mut work[0..payload]) {
+        return Err(NoPacket::CutShort(Short {
+            came: 4 + fixed + short.came,
+            ending: short.ending,
+        }));
     }
-    Drawn::Whole(Packet {
+    Ok(Packet {
         kind: head.kind,
         length: head.length,
         fields: fields_of(head.kind, bytes),

@@ -10,6 +10,6 @@ mod receiving;
 mod standings;
 mod tickets;
 
-pub use answers::{Answer, Failure, PassRefusal, Passed, StepRefusal};
-pub use receiving::{Closed, Receiver, close, open};
+pub use answers::{Answer, Failure, PassRefusal, Passed, StepFault, StepRefusal};
+pub use receiving::{Closed, Receiver, WORK_LENGTH, close, open};
 pub use tickets::Ticket;

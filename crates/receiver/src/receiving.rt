@@ -1,8 +1,9 @@
 // Open, Step, Pass and Close.
 ghost use Rattle.std.specs.Prelude.{◌≡◌, ◌≤◌, false, ◌&&◌, length, ◌==◌};
 ghost use Rattle.receiver.specs.Draws.{laid_over};
-ghost use Rattle.receiver.specs.Passes.{passes, PassesAs, passed, pass_standing, pass_buffer, pass_used, pass_told};
-ghost use Rattle.receiver.specs.Steps.{opened, ended, steps, stepped, step_standing, step_used, step_told, step_front, reading_used, reading_told, reading_front};
+ghost use Rattle.receiver.specs.Passes.{passes, passed, pass_standing, pass_buffer, pass_usage};
+ghost use Rattle.receiver.specs.Steps.{opened, ended, advanced, advance_front, advance_usage, stepped, step_standing, step_front, step_usage};
+ghost use Rattle.receiver.specs.Views.{view, Moved};
 
 use super::answers::{Answer, Counted, PassRefusal, Passed, StepRefusal, counted_as};
 use super::drawing::draw;
@@ -12,7 +13,7 @@ use carrier::Carrier;
 use packet::BodyKind;
 
 // The least length of a work buffer: every payload fits.
-const WORK_LENGTH: usize = 65_535;
+pub const WORK_LENGTH: usize = 65_535;
 
 pub struct Receiver<C> {
     carrier: C,
@@ -21,6 +22,7 @@ pub struct Receiver<C> {
 }
 
 // What Close gives back.
+#[derive(Drop)]
 pub struct Closed<C> {
     pub carrier: C,
     // whether the body was read to its clean end, so that another may be read from the carrier
@@ -51,33 +53,27 @@ pub fn open<C: Carrier>(
 impl<C: Carrier> Receiver<C> {
     // Reads one packet, its payload to the front of `work`; or tells the end, or a fault.
     pub fn step(&mut self, work: &mut [u8]) -> Result<Answer, StepRefusal>
-        ensures answer { result ≡ stepped self.old.standing (length work.old) (C.Carrier.coming self.old.carrier) (C.Carrier.ending self.old.carrier) }
-        ensures standing { self.new.standing ≡ step_standing self.old.standing (length work.old) (C.Carrier.coming self.old.carrier) (C.Carrier.ending self.old.carrier) }
-        ensures number { self.new.number ≡ self.old.number }
-        ensures buffer { work.new ≡ laid_over (step_front self.old.standing (length work.old) (C.Carrier.coming self.old.carrier)) work.old }
-        ensures lacks { C.Carrier.lacks self.old.carrier (step_used self.old.standing (length work.old) (C.Carrier.coming self.old.carrier)) (step_told self.old.standing (length work.old) (C.Carrier.coming self.old.carrier) (C.Carrier.ending self.old.carrier)) self.new.carrier }
+        ensures answer { result ≡ stepped (view C.Carrier self.old) (length work.old) }
+        ensures buffer { work.new ≡ laid_over (step_front (view C.Carrier self.old) (length work.old)) work.old }
+        ensures moved { Moved C.Carrier self.old (step_standing (view C.Carrier self.old) (length work.old)) (step_usage (view C.Carrier self.old) (length work.old)) self.new }
     {
-        if work.len() < WORK_LENGTH {
+        let Some(work) = work.first_chunk_mut() else {
             return Err(StepRefusal::ShortWorkBuffer);
-        }
+        };
         Ok(self.advance(work))
     }
 
     // A Step whose work buffer is long enough.
-    fn advance(&mut self, work: &mut [u8]) -> Answer
-        requires { 65535 ≤ length work.old }
-        ensures answer { result ≡ (steps self.old.standing (C.Carrier.coming self.old.carrier) (C.Carrier.ending self.old.carrier)).answer }
-        ensures standing { self.new.standing ≡ (steps self.old.standing (C.Carrier.coming self.old.carrier) (C.Carrier.ending self.old.carrier)).standing }
-        ensures number { self.new.number ≡ self.old.number }
-        ensures buffer { work.new ≡ laid_over (reading_front self.old.standing.progress (C.Carrier.coming self.old.carrier)) work.old }
-        ensures lacks { C.Carrier.lacks self.old.carrier (reading_used self.old.standing.progress (C.Carrier.coming self.old.carrier)) (reading_told self.old.standing.progress (C.Carrier.coming self.old.carrier) (C.Carrier.ending self.old.carrier)) self.new.carrier }
+    fn advance(&mut self, work: &mut [u8; WORK_LENGTH]) -> Answer
+        ensures answer { result ≡ (advanced (view C.Carrier self.old)).answer }
+        ensures buffer { work.new ≡ laid_over (advance_front (view C.Carrier self.old)) work.old }
+        ensures length { length work.new ≡ 65535 }
+        ensures moved { Moved C.Carrier self.old (advanced (view C.Carrier self.old)).standing (advance_usage (view C.Carrier self.old)) self.new }
     {
         match self.standing.progress {
             Progress::Reading(at) => {
                 let drawn = draw(&mut self.carrier, work);
-                let settled = self.standing.settle(at, drawn);
-                self.standing = settled.standing;
-                settled.answer
+                self.standing.settle(at, drawn)
             }
             Progress::Ended(_) => Answer::End(self.standing.place),
             Progress::Failed(failure) => Answer::Failed(failure),
@@ -86,15 +82,13 @@ impl<C: Carrier> Receiver<C> {
 
     // Steps over data packets, delivered and stale, up to anything else.
     pub fn pass(&mut self, work: &mut [u8]) -> Result<Passed, PassRefusal>
-        ensures answer { result ≡ passed self.old.standing (C.Carrier.coming self.old.carrier) (C.Carrier.ending self.old.carrier) work.old }
-        ensures standing { self.new.standing ≡ pass_standing self.old.standing (C.Carrier.coming self.old.carrier) (C.Carrier.ending self.old.carrier) work.old }
-        ensures number { self.new.number ≡ self.old.number }
-        ensures buffer { work.new ≡ pass_buffer self.old.standing (C.Carrier.coming self.old.carrier) (C.Carrier.ending self.old.carrier) work.old }
-        ensures lacks { C.Carrier.lacks self.old.carrier (pass_used self.old.standing (C.Carrier.coming self.old.carrier) (C.Carrier.ending self.old.carrier) work.old) (pass_told self.old.standing (C.Carrier.coming self.old.carrier) (C.Carrier.ending self.old.carrier) work.old) self.new.carrier }
+        ensures answer { result ≡ passed (view C.Carrier self.old) work.old }
+        ensures buffer { work.new ≡ pass_buffer (view C.Carrier self.old) work.old }
+        ensures moved { Moved C.Carrier self.old (pass_standing (view C.Carrier self.old) work.old) (pass_usage (view C.Carrier self.old) work.old) self.new }
     {
-        if work.len() < WORK_LENGTH {
+        let Some(work) = work.first_chunk_mut() else {
             return Err(PassRefusal::ShortWorkBuffer);
-        }
+        };
         if !self.standing.has_header() {
             return Err(PassRefusal::NoHeaderInForce);
         }
@@ -102,26 +96,26 @@ impl<C: Carrier> Receiver<C> {
     }
 
     // A Pass that is granted.
-    fn pass_over(&mut self, work: &mut [u8]) -> Passed
-        requires { 65535 ≤ length work.old }
-        ensures law { PassesAs (passes self.old.standing (C.Carrier.coming self.old.carrier) (C.Carrier.ending self.old.carrier) work.old) result self.new.standing work.new }
-        ensures number { self.new.number ≡ self.old.number }
-        ensures lacks { C.Carrier.lacks self.old.carrier (passes self.old.standing (C.Carrier.coming self.old.carrier) (C.Carrier.ending self.old.carrier) work.old).used_bytes (passes self.old.standing (C.Carrier.coming self.old.carrier) (C.Carrier.ending self.old.carrier) work.old).told self.new.carrier }
+    fn pass_over(&mut self, work: &mut [u8; WORK_LENGTH]) -> Passed
+        ensures answer { result ≡ (passes (view C.Carrier self.old) work.old).passed }
+        ensures buffer { work.new ≡ (passes (view C.Carrier self.old) work.old).buffer }
+        ensures length { length work.new ≡ 65535 }
+        ensures moved { Moved C.Carrier self.old (passes (view C.Carrier self.old) work.old).standing (passes (view C.Carrier self.old) work.old).usage self.new }
     {
         let mut delivered = 0u64;
         let mut stale = 0u64;
         loop {
             let answer = self.advance(work);
-            match counted_as(answer) {
+            let Some(counted) = counted_as(answer) else {
+                return Passed {
+                    answer,
+                    delivered,
+                    stale,
+                };
+            };
+            match counted {
                 Counted::Delivered => delivered = delivered.saturating_add(1),
                 Counted::Stale => stale = stale.saturating_add(1),
-                Counted::Other => {
-                    return Passed {
-                        answer,
-                        delivered,
-                        stale,
-                    };
-                }
             }
         }
     }

@@ -1,12 +1,13 @@
 // Where a receiver stands in its body, and what a drawn packet makes of that.
-ghost use Rattle.std.specs.Prelude.{◌≡◌};
+ghost use Rattle.std.specs.Prelude.{◌≡◌, Ok, Err};
+ghost use Rattle.receiver.specs.declared.drawing.NoPacket.TheVariants.{CutShort};
 ghost use Rattle.receiver.specs.Steps.{opened, settles, fails, failure, ended, headed};
 
-use super::answers::{Answer, Failure};
-use super::drawing::Drawn;
-use carrier::{Ending, Fault};
+use super::answers::{Answer, Failure, StepFault};
+use super::drawing::NoPacket;
+use carrier::{Ending, Short};
 use packet::{
-    BodyKind, Event, Packet, Position, StepFault, fixed_length, in_force, judge, may_end,
+    BodyKind, Event, Packet, PacketFault, Position, fixed_length, in_force, judge, may_end,
     size_agrees, start,
 };
 
@@ -26,13 +27,6 @@ pub struct Standing {
     // how many headers were completed
     pub entry: u8,
     pub progress: Progress,
-}
-
-// What a Step answers, and where it leaves the receiver.
-#[derive(Clone, Copy)]
-pub struct Settled {
-    pub answer: Answer,
-    pub standing: Standing,
 }
 
 impl Standing {
@@ -67,80 +61,73 @@ impl Standing {
     }
 
     // What was drawn is settled at a position of the grammar.
-    pub fn settle(self, at: Position, drawn: Drawn) -> Settled
-        ensures { result ≡ settles self at drawn }
+    pub fn settle(&mut self, at: Position, drawn: Result<Packet, NoPacket>) -> Answer
+        ensures answer { result ≡ (settles self.old at drawn).answer }
+        ensures standing { self.new ≡ (settles self.old at drawn).standing }
     {
         match drawn {
-            Drawn::Whole(packet) => self.settle_packet(at, packet),
-            Drawn::BadHead(fault) => {
-                self.fail(self.place.saturating_add(4), fault, self.place, None)
+            Ok(packet) => self.settle_packet(at, packet),
+            Err(NoPacket::BadHead(fault)) => {
+                self.fail(
+                    self.place.saturating_add(4),
+                    StepFault::Packet(fault),
+                    self.place,
+                )
             }
-            Drawn::Short(came, ending) => self.settle_end(at, came, ending),
+            Err(NoPacket::CutShort(short)) => self.settle_end(at, short),
         }
     }
 
-    fn settle_packet(self, at: Position, packet: Packet) -> Settled
-        ensures { result ≡ settles self at (Drawn.Whole packet) }
+    fn settle_packet(&mut self, at: Position, packet: Packet) -> Answer
+        ensures answer { result ≡ (settles self.old at (Ok packet)).answer }
+        ensures standing { self.new ≡ (settles self.old at (Ok packet)).standing }
     {
-        let behind = self.place.saturating_add(4 + packet.length as u64);
+        let place = self.place;
+        let behind = place.saturating_add(4 + packet.length as u64);
         if !size_agrees(packet) {
-            return self.fail(behind, StepFault::PacketSize, self.place, None);
+            return self.fail(behind, StepFault::Packet(PacketFault::PacketSize), place);
         }
         match judge(packet, at, self.entry) {
-            Err(fault) => self.fail(behind, fault, self.place, None),
-            Ok(judged) => Settled {
-                answer: Answer::Event(Event {
+            Err(fault) => self.fail(behind, StepFault::Packet(fault), place),
+            Ok(judged) => {
+                self.place = behind;
+                self.entry = judged.entry;
+                self.progress = Progress::Reading(judged.next);
+                Answer::Event(Event {
                     letter: judged.letter,
-                    place: self.place,
+                    place,
                     entry: judged.entry,
                     fields: packet.fields,
                     payload_length: packet.length.saturating_sub(fixed_length(packet.kind)),
-                }),
-                standing: Standing {
-                    place: behind,
-                    entry: judged.entry,
-                    progress: Progress::Reading(judged.next),
-                },
-            },
+                })
+            }
         }
     }
 
-    fn settle_end(self, at: Position, came: usize, ending: Ending) -> Settled
-        ensures { result ≡ settles self at (Drawn.Short came ending) }
+    fn settle_end(&mut self, at: Position, short: Short) -> Answer
+        ensures answer { result ≡ (settles self.old at (Err (CutShort short))).answer }
+        ensures standing { self.new ≡ (settles self.old at (Err (CutShort short))).standing }
     {
-        let place = self.place.saturating_add(came as u64);
-        match ending {
-            Ending::Broken(fault) => {
-                self.fail(place, StepFault::CarrierBroke, place, Some(fault))
+        let place = self.place.saturating_add(short.came as u64);
+        match short.ending {
+            Ending::Broken(fault) => self.fail(place, StepFault::CarrierBroke(fault), place),
+            Ending::Clean if short.came == 0 && may_end(at) => {
+                self.place = place;
+                self.progress = Progress::Ended(at);
+                Answer::End(place)
             }
-            Ending::Clean if came == 0 && may_end(at) => Settled {
-                answer: Answer::End(place),
-                standing: Standing {
-                    place,
-                    entry: self.entry,
-                    progress: Progress::Ended(at),
-                },
-            },
-            Ending::Clean => self.fail(place, StepFault::EndsEarly, place, None),
+            Ending::Clean => self.fail(place, StepFault::EndsEarly, place),
         }
     }
 
     // The fault is answered from now on, with `drawn` bytes drawn.
-    fn fail(self, drawn: u64, fault: StepFault, place: u64, carrier: Option<Fault>) -> Settled
-        ensures { result ≡ fails drawn self.entry (failure fault place carrier) }
+    fn fail(&mut self, drawn: u64, fault: StepFault, place: u64) -> Answer
+        ensures answer { result ≡ (fails drawn self.old.entry (failure fault place)).answer }
+        ensures standing { self.new ≡ (fails drawn self.old.entry (failure fault place)).standing }
     {
-        let failure = Failure {
-            fault,
-            place,
-            carrier,
-        };
-        Settled {
-            answer: Answer::Failed(failure),
-            standing: Standing {
-                place: drawn,
-                entry: self.entry,
-                progress: Progress::Failed(failure),
-            },
-        }
+        let failure = Failure { fault, place };
+        self.place = drawn;
+        self.progress = Progress::Failed(failure);
+        Answer::Failed(failure)
     }
 }

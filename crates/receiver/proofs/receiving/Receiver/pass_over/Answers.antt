@@ -1,48 +1,49 @@
-use Rattle.std.proofs.Common.{sym, refl, ap, ◌∙◌, rules}
+use Rattle.std.proofs.Common.{Some, sym, refl, ap, ◌∙◌, rules}
 use Rattle.receiver.specs.Passes.{counts}
 use Rattle.receiver.proofs.Passing.{other_delivered, other_stale, fewer, delivered_turn, stale_turn, last_turn}
 use Rattle.receiver.proofs.receiving.Receiver.pass_over.Goals as goal
 
-pub loop-delivered-init : goal.loop-delivered-init
-loop-delivered-init g c = (refl, refl, (0, g.C.Carrier.adds.same c.args.self.now.carrier, refl))
+pub loop-counted-init : goal.loop-counted-init
+loop-counted-init g c = (refl, (0, record { standing = refl; number = refl; lacks = g.met.C.Carrier.adds.same c.args.self.now.carrier }, refl))
 
-pub loop-delivered-smaller-in-Delivered : goal.loop-delivered-smaller-in-Delivered
-loop-delivered-smaller-in-Delivered g c =
-    let m = g.C.Carrier in
+pub loop-counted-smaller-in-Delivered : goal.loop-counted-smaller-in-Delivered
+loop-counted-smaller-in-Delivered g c =
     let told = c.advance-answer.ensures in
-    let inv = c.loop-delivered.invariant in
-    let is = ap counts (sym told.answer) ∙ sym c.in-Delivered.ensures in
-    fewer m.adds c.args.self.now.carrier c.loop-delivered.self.carrier c.advance-answer.new.self.carrier c.loop-delivered.self.standing c.advance-answer.new.self.standing c.loop-delivered.work c.advance-answer.new.work c.loop-delivered.delivered c.loop-delivered.stale inv.2.0 inv.2.1 told.standing told.buffer told.lacks (other_delivered _ is)
+    let is = ap counts (sym told.answer) ∙ sym c.in-Some.ensures ∙ ap Some c.in-Delivered.is in
+    fewer g.C.Carrier g.met.C.Carrier.adds c.loop-counted.self c.advance-answer.new.self told.moved (other_delivered _ is)
 
-pub loop-delivered-preserved-in-Delivered : goal.loop-delivered-preserved-in-Delivered
-loop-delivered-preserved-in-Delivered g c =
-    let m = g.C.Carrier in
+pub loop-counted-preserved-in-Delivered : goal.loop-counted-preserved-in-Delivered
+loop-counted-preserved-in-Delivered g c =
+    let before = c.loop-counted in
+    let behind = c.advance-answer.new in
     let told = c.advance-answer.ensures in
-    let inv = c.loop-delivered.invariant in
-    let is = ap counts (sym told.answer) ∙ sym c.in-Delivered.ensures in
-    (search rules, told.number ∙ inv.1, delivered_turn m.adds c.args.self.now.carrier c.loop-delivered.self.carrier c.advance-answer.new.self.carrier c.loop-delivered.self.standing c.advance-answer.new.self.standing c.loop-delivered.work c.advance-answer.new.work c.loop-delivered.delivered c.loop-delivered.stale inv.2.0 inv.2.1 told.standing told.buffer told.lacks _ inv.2.2 is _ c.saturating_add-delivered.ensures)
+    let (same_length, (u, gave, whole)) = before.invariant in
+    let is = ap counts (sym told.answer) ∙ sym c.in-Some.ensures ∙ ap Some c.in-Delivered.is in
+    let turn = delivered_turn g.C.Carrier g.met.C.Carrier.adds before.self behind.self told.moved c.args.self.now before.work behind.work before.delivered before.stale u gave told.buffer _ whole is _ c.saturating_add-delivered.ensures in
+    (search rules, turn)
 
-pub loop-delivered-smaller : goal.loop-delivered-smaller
-loop-delivered-smaller g c =
-    let m = g.C.Carrier in
+pub loop-counted-smaller : goal.loop-counted-smaller
+loop-counted-smaller g c =
     let told = c.advance-answer.ensures in
-    let inv = c.loop-delivered.invariant in
-    let is = ap counts (sym told.answer) ∙ sym c.in-Stale.ensures in
-    fewer m.adds c.args.self.now.carrier c.loop-delivered.self.carrier c.advance-answer.new.self.carrier c.loop-delivered.self.standing c.advance-answer.new.self.standing c.loop-delivered.work c.advance-answer.new.work c.loop-delivered.delivered c.loop-delivered.stale inv.2.0 inv.2.1 told.standing told.buffer told.lacks (other_stale _ is)
+    let is = ap counts (sym told.answer) ∙ sym c.in-Some.ensures ∙ ap Some c.in-Stale.is in
+    fewer g.C.Carrier g.met.C.Carrier.adds c.loop-counted.self c.advance-answer.new.self told.moved (other_stale _ is)
 
-pub loop-delivered-preserved : goal.loop-delivered-preserved
-loop-delivered-preserved g c =
-    let m = g.C.Carrier in
+pub loop-counted-preserved : goal.loop-counted-preserved
+loop-counted-preserved g c =
+    let before = c.loop-counted in
+    let behind = c.advance-answer.new in
     let told = c.advance-answer.ensures in
-    let inv = c.loop-delivered.invariant in
-    let is = ap counts (sym told.answer) ∙ sym c.in-Stale.ensures in
-    (search rules, told.number ∙ inv.1, stale_turn m.adds c.args.self.now.carrier c.loop-delivered.self.carrier c.advance-answer.new.self.carrier c.loop-delivered.self.standing c.advance-answer.new.self.standing c.loop-delivered.work c.advance-answer.new.work c.loop-delivered.delivered c.loop-delivered.stale inv.2.0 inv.2.1 told.standing told.buffer told.lacks _ inv.2.2 is _ c.saturating_add-stale.ensures)
+    let (same_length, (u, gave, whole)) = before.invariant in
+    let is = ap counts (sym told.answer) ∙ sym c.in-Some.ensures ∙ ap Some c.in-Stale.is in
+    let turn = stale_turn g.C.Carrier g.met.C.Carrier.adds before.self behind.self told.moved c.args.self.now before.work behind.work before.delivered before.stale u gave told.buffer _ whole is _ c.saturating_add-stale.ensures in
+    (search rules, turn)
 
-pub returns-in-Other : goal.returns-in-Other
-returns-in-Other g c =
-    let m = g.C.Carrier in
+pub returns-in_default : goal.returns-in_default
+returns-in_default g c =
+    let before = c.loop-counted in
+    let behind = c.advance-answer.new in
     let told = c.advance-answer.ensures in
-    let inv = c.loop-delivered.invariant in
-    let is = ap counts (sym told.answer) ∙ sym c.in-Other.ensures in
-    let end = last_turn m.adds c.args.self.now.carrier c.loop-delivered.self.carrier c.advance-answer.new.self.carrier c.loop-delivered.self.standing c.advance-answer.new.self.standing c.loop-delivered.work c.advance-answer.new.work c.loop-delivered.delivered c.loop-delivered.stale inv.2.0 inv.2.1 told.standing told.buffer told.lacks _ inv.2.2 is c.advance-answer.result told.answer in
-    record { law = end.0; number = told.number ∙ inv.1; lacks = end.1 }
+    let (same_length, (u, gave, whole)) = before.invariant in
+    let is = ap counts (sym told.answer) ∙ sym c.in_default.ensures in
+    let (answer, buffer, moved) = last_turn g.C.Carrier g.met.C.Carrier.adds before.self behind.self told.moved c.args.self.now before.work behind.work before.delivered before.stale u gave told.buffer _ whole is c.advance-answer.result told.answer in
+    record { answer = answer; buffer = buffer; length = search rules; moved = moved }
