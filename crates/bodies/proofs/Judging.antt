@@ -2,8 +2,8 @@
 use Rattle.std.proofs.Common.{◌≡◌, ℕ, ◌+◌, ◌≤◌, cond, Some, Ok, Err, Result, refl, ◌∙◌, subst, inl, inr, suc-ne-zero, arith, ne_eqb}
 use Rattle.packet.specs.declared.wire.Packet.{Packet}
 use Rattle.packet.specs.declared.grammar.Position.{Position}
-use Rattle.packet.specs.declared.grammar.StepFault.{StepFault}
-use Rattle.packet.specs.declared.grammar.StepFault.TheVariants as fault
+use Rattle.packet.specs.declared.grammar.PacketFault.{PacketFault}
+use Rattle.packet.specs.declared.grammar.PacketFault.TheVariants as fault
 use Rattle.packet.specs.declared.grammar.Letter.{Letter}
 use Rattle.packet.specs.declared.grammar.Letter.TheVariants as letter
 use Rattle.packet.specs.declared.grammar.Judged.{Judged}
@@ -14,20 +14,20 @@ use Rattle.bodies.proofs.Ruling.{Ruled, Follows, ruled}
 use Rattle.bodies.proofs.Leading.{Leads, next_of}
 
 -- being out of place is none of the other judgements
-pub out_is_not_ok : (r : Result Judged StepFault) (j : Judged) → OutOfPlace r → r ≡ Ok j → ⊥
+pub out_is_not_ok : (r : Result Judged PacketFault) (j : Judged) → OutOfPlace r → r ≡ Ok j → ⊥
 out_is_not_ok r j (inl e) ok = suc-ne-zero 0 (cc)
 out_is_not_ok r j (inr (inl e)) ok = suc-ne-zero 0 (cc)
 out_is_not_ok r j (inr (inr e)) ok = suc-ne-zero 0 (cc)
 
-pub out_is_not_limit : (r : Result Judged StepFault) → OutOfPlace r → r ≡ Err fault.TooManyEntries → ⊥
+pub out_is_not_limit : (r : Result Judged PacketFault) → OutOfPlace r → r ≡ Err fault.TooManyEntries → ⊥
 out_is_not_limit r (inl e) limit = suc-ne-zero 0 (cc)
 out_is_not_limit r (inr (inl e)) limit = suc-ne-zero 0 (cc)
 out_is_not_limit r (inr (inr e)) limit = suc-ne-zero 0 (cc)
 
-pub ok_is_not_limit : (r : Result Judged StepFault) (j : Judged) → r ≡ Ok j → r ≡ Err fault.TooManyEntries → ⊥
+pub ok_is_not_limit : (r : Result Judged PacketFault) (j : Judged) → r ≡ Ok j → r ≡ Err fault.TooManyEntries → ⊥
 ok_is_not_limit r j ok limit = suc-ne-zero 0 (cc)
 
-leads_by : (r : Result Judged StepFault) (next : Position) → next_of r ≡ Some next → (j : Judged) × (r ≡ Ok j)
+leads_by : (r : Result Judged PacketFault) (next : Position) → next_of r ≡ Some next → (j : Judged) × (r ≡ Ok j)
 leads_by (Ok j) next e = (j, refl)
 leads_by (Err x) next e = absurd (suc-ne-zero 0 (cc))
 

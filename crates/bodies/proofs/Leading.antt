@@ -6,13 +6,13 @@ use Rattle.packet.specs.declared.grammar.BodyKind.{BodyKind}
 use Rattle.packet.specs.declared.grammar.BodyKind.TheVariants as body
 use Rattle.packet.specs.declared.grammar.Position.{Position}
 use Rattle.packet.specs.declared.grammar.Position.TheVariants as at
-use Rattle.packet.specs.declared.grammar.StepFault.{StepFault}
+use Rattle.packet.specs.declared.grammar.PacketFault.{PacketFault}
 use Rattle.packet.specs.declared.grammar.Judged.{Judged}
 use Rattle.packet.specs.Judging.{judged, starts, ends, first, first_and_last, middle, last}
 use Rattle.bodies.specs.Grammar.{Is, MetadataOf, HeaderOf, EndOf, RunOn, Run, Header, Entry, Groups, Entries, Play, Described, Describe, Body}
 use Rattle.bodies.proofs.Rest.{Rest, over}
 
-abbrev pub next_of : Result Judged StepFault → Option Position
+abbrev pub next_of : Result Judged PacketFault → Option Position
 next_of (Ok j) = Some j.next
 next_of (Err x) = None
 

@@ -6,8 +6,8 @@ use Rattle.packet.specs.declared.wire.Kind.TheVariants as kind
 use Rattle.packet.specs.declared.wire.Packet.{Packet}
 use Rattle.packet.specs.declared.grammar.Position.{Position}
 use Rattle.packet.specs.declared.grammar.Position.TheVariants as at
-use Rattle.packet.specs.declared.grammar.StepFault.{StepFault}
-use Rattle.packet.specs.declared.grammar.StepFault.TheVariants as fault
+use Rattle.packet.specs.declared.grammar.PacketFault.{PacketFault}
+use Rattle.packet.specs.declared.grammar.PacketFault.TheVariants as fault
 use Rattle.packet.specs.declared.grammar.Letter.{Letter}
 use Rattle.packet.specs.declared.grammar.Letter.TheVariants as letter
 use Rattle.packet.specs.declared.grammar.Judged.{Judged}
@@ -165,7 +165,7 @@ pair_ruled p (at.ResumingUnder i) is = not_here (λ n. refl)
 
 -- a $H where one of two marks may come: one with which the header goes on, and one that completes it
 module _ (p : Packet) (is : Is kind.Header p) (at : Position) (on closing of : ℕ) (run done : Position) where
-  abbrev marked : ℕ → Result Judged StepFault
+  abbrev marked : ℕ → Result Judged PacketFault
   marked n =
       cond (eqb p.fields.af_flags on) (agreed p.fields.incarnation of (told letter.Header run n))
       (cond (eqb p.fields.af_flags closing) (agreed p.fields.incarnation of (completed done n)) (Err fault.HeaderMarks))

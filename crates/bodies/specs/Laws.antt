@@ -5,8 +5,8 @@ use Rattle.packet.specs.declared.grammar.BodyKind.{BodyKind}
 use Rattle.packet.specs.declared.grammar.Position.{Position}
 use Rattle.packet.specs.declared.grammar.Event.{Event}
 use Rattle.packet.specs.declared.grammar.Judged.{Judged}
-use Rattle.packet.specs.declared.grammar.StepFault.{StepFault}
-use Rattle.packet.specs.declared.grammar.StepFault.TheVariants as fault
+use Rattle.packet.specs.declared.grammar.PacketFault.{PacketFault}
+use Rattle.packet.specs.declared.grammar.PacketFault.TheVariants as fault
 use Rattle.packet.specs.Judging.{judged, starts, entry_limit}
 use Rattle.bodies.specs.Grammar.{Body}
 use Rattle.bodies.specs.Layout.{LaidOut, AllLaid}
@@ -19,7 +19,7 @@ AcceptsExactlyBodies =
     → Accepted (starts b before) 0 0 ps es ↔ (Body b before ps × (headers ps ≤ entry_limit) × (es ≡ events b before ps))
 
 -- the faults of a packet that does not fit where it stands
-abbrev pub OutOfPlace : Result Judged StepFault → Type 0
+abbrev pub OutOfPlace : Result Judged PacketFault → Type 0
 OutOfPlace r = (r ≡ Err fault.NotAllowedHere) ⊎ ((r ≡ Err fault.HeaderMarks) ⊎ (r ≡ Err fault.Incarnation))
 
 -- Behind packets that were allowed, a packet is out of place exactly where no body goes on with it.
