@@ -1,32 +1,33 @@
 -- A run ends clean exactly for the bodies with at most 255 headers.
-use Rattle.std.proofs.Common.{◌≡◌, ℕ, zero, suc, ◌+◌, ◌≤◌, Bool, true, false, cond, ◌&&◌, eqb, List, [], ◌∷◌, ◌++◌, map, length, drop, None, Ok, Err, Option, Result, sym, refl, ap, ◌∙◌, ap₂, append-nil, arith, length-append, eqb-true}
+use Rattle.std.proofs.Common.{◌≡◌, ℕ, zero, suc, ◌+◌, ◌≤◌, Bool, true, false, cond, ◌&&◌, eqb, List, [], ◌∷◌, ◌++◌, map, length, drop, Ok, Err, Option, Result, sym, refl, ap, ◌∙◌, ap₂, append-nil, arith, length-append, eqb-true}
 use Rattle.std.proofs.lemmas.List.{nil_from_length}
-use Rattle.carrier.specs.declared.Ending.{Ending}
-use Rattle.carrier.specs.declared.Ending.TheVariants as ending
+use Rattle.carrier.specs.declared.endings.Ending.{Ending}
+use Rattle.carrier.specs.declared.endings.Ending.TheVariants as ending
+use Rattle.carrier.specs.declared.filling.Short.{Short}
 use Rattle.packet.specs.declared.wire.Packet.{Packet}
 use Rattle.packet.specs.declared.grammar.BodyKind.{BodyKind}
 use Rattle.packet.specs.declared.grammar.Position.{Position}
 use Rattle.packet.specs.declared.grammar.Event.{Event}
 use Rattle.packet.specs.declared.grammar.Judged.{Judged}
-use Rattle.packet.specs.declared.grammar.StepFault.{StepFault}
-use Rattle.packet.specs.declared.grammar.StepFault.TheVariants as fault
+use Rattle.packet.specs.declared.grammar.PacketFault.{PacketFault}
+use Rattle.packet.specs.declared.grammar.PacketFault.TheVariants as fault
 use Rattle.packet.specs.Wire.{sized}
 use Rattle.packet.specs.Judging.{judged, starts, ends, behind, stopped, event, entry_limit}
 use Rattle.receiver.specs.declared.answers.Answer.{Answer}
 use Rattle.receiver.specs.declared.answers.Answer.TheVariants as answer
 use Rattle.receiver.specs.declared.answers.Failure.{Failure}
-use Rattle.receiver.specs.declared.drawing.Drawn.{Drawn}
-use Rattle.receiver.specs.declared.drawing.Drawn.TheVariants as drawn
-use Rattle.receiver.specs.declared.standings.Settled.{Settled}
+use Rattle.receiver.specs.declared.answers.StepFault.TheVariants as step_fault
+use Rattle.receiver.specs.declared.drawing.NoPacket.{NoPacket}
+use Rattle.receiver.specs.declared.drawing.NoPacket.TheVariants.{BadHead, CutShort}
 use Rattle.receiver.specs.Draws.{draws, used}
-use Rattle.receiver.specs.Steps.{settles, settles_packet, closes, fails, failure}
+use Rattle.receiver.specs.Steps.{Settled, settles, settles_packet, settles_end, closes, fails, failure}
 use Rattle.bodies.specs.Grammar.{Body}
 use Rattle.bodies.specs.Told.{headers, events, Accepted, Reached}
 use Rattle.bodies.proofs.Accepting.{accepts_exactly_bodies}
 use Rattle.runs.specs.Answers.{goes_on, run, answers}
 use Rattle.runs.specs.Bytes.{Bytes}
 use Rattle.runs.specs.Laws.{EndsCleanExactlyForBodies}
-use Rattle.runs.proofs.Reading.{zero_is_not_one, laid_read, drawn_laid, short_is}
+use Rattle.runs.proofs.Reading.{laid_read, drawn_laid, short_is}
 use Rattle.runs.proofs.Running.{reading, left_over, run_ends, answers_behind}
 
 -- the answers of a run that ends clean
@@ -34,17 +35,17 @@ abbrev clean_answers : List Event → ℕ → List Answer
 clean_answers es end = map answer.Event es ++ (answer.End end ∷ [])
 
 no_fault : (f : Failure) (es : List Event) (end : ℕ) → answer.Failed f ∷ [] ≡ clean_answers es end → ⊥
-no_fault f [] end same = zero_is_not_one (cc)
-no_fault f (x ∷ es) end same = zero_is_not_one (cc)
+no_fault f [] end same = cc
+no_fault f (x ∷ es) end same = cc
 
 ends_there : (n : ℕ) (es : List Event) (end : ℕ) → answer.End n ∷ [] ≡ clean_answers es end → (end ≡ n) × (es ≡ [])
 ends_there n [] end same = (cc, refl)
-ends_there n (x ∷ es) end same = absurd (zero_is_not_one (cc))
+ends_there n (x ∷ es) end same = absurd (cc)
 
 goes_on_there : (x : Event) (more : List Answer) (es : List Event) (end : ℕ)
     → answer.Event x ∷ more ≡ clean_answers es end
     → (fs : List Event) × (es ≡ x ∷ fs) × (more ≡ clean_answers fs end)
-goes_on_there x more [] end same = absurd (zero_is_not_one (cc))
+goes_on_there x more [] end same = absurd (cc)
 goes_on_there x more (y ∷ fs) end same = (fs, cc, cc)
 
 -- what a run that ends clean was over
@@ -61,7 +62,7 @@ module _ (k : ℕ) (e : Ending) (end : ℕ) (only : OnlyBodies k e end) (here : 
   told s = goes_on s.answer (run k s.standing (drop (used bs) bs) e)
 
   over_packet : (p : Packet)
-      → draws bs e ≡ drawn.Whole p
+      → draws bs e ≡ Ok p
       → sized p ≡ true
       → (j : Judged) → judged p here entry ≡ Ok j
       → told (settles_packet (reading here entry place) p (Ok j)) ≡ clean_answers es end
@@ -76,38 +77,44 @@ module _ (k : ℕ) (e : Ending) (end : ℕ) (only : OnlyBodies k e end) (here : 
       (clean, end_is ∙ omega arith, (p ∷ ps, (payload, ws, r, laid, is, bytes), (j, fs, ok, es-are, accepted)))
 
   whole_packet : (p : Packet)
-      → draws bs e ≡ drawn.Whole p
+      → draws bs e ≡ Ok p
       → (b : Bool) → sized p ≡ b
-      → (r : Result Judged StepFault) → judged p here entry ≡ r
+      → (r : Result Judged PacketFault) → judged p here entry ≡ r
       → told (settles_packet (reading here entry place) p (cond b r (Err fault.PacketSize))) ≡ clean_answers es end
       → WasBody here entry place bs e es end
   whole_packet p whole true right (Ok j) ok same = over_packet p whole right j ok same
-  whole_packet p whole true right (Err f) bad same = absurd (no_fault (failure f place None) es end same)
-  whole_packet p whole false wrong r judgement same = absurd (no_fault (failure fault.PacketSize place None) es end same)
+  whole_packet p whole true right (Err f) bad same = absurd (no_fault (failure (step_fault.Packet f) place) es end same)
+  whole_packet p whole false wrong r judgement same = absurd (no_fault (failure (step_fault.Packet fault.PacketSize) place) es end same)
 
-  at_end : (n : ℕ)
-      → draws bs e ≡ drawn.Short n ending.Clean
-      → (a : Bool) → ends here ≡ a
-      → (z : Bool) → eqb n 0 ≡ z
-      → told (cond (a && z) (closes here (stopped (place + n)) entry) (fails (stopped (place + n)) entry (failure fault.EndsEarly (stopped (place + n)) None))) ≡ clean_answers es end
-      → WasBody here entry place bs e es end
-  at_end n short true done true nothing same =
-      let (long, clean) = short_is bs e n ending.Clean short in
-      let none = eqb-true n 0 nothing in
-      let (end_is, es-are) = ends_there (stopped (place + n)) es end same in
-      (sym clean, end_is ∙ ap (λ x. stopped (place + x)) long, ([], nil_from_length bs (sym long ∙ none), (done, es-are)))
-  at_end n short true done false cut same = absurd (no_fault (failure fault.EndsEarly (stopped (place + n)) None) es end same)
-  at_end n short false early z nothing same = absurd (no_fault (failure fault.EndsEarly (stopped (place + n)) None) es end same)
+  module _ (cut : Short) (short : draws bs e ≡ Err (CutShort cut)) where
+    abbrev behind_it : ℕ
+    behind_it = stopped (place + cut.came)
 
-  by_drawn : (d : Drawn) → draws bs e ≡ d → told (settles (reading here entry place) here d) ≡ clean_answers es end → WasBody here entry place bs e es end
-  by_drawn (drawn.Whole p) whole same = whole_packet p whole (sized p) refl (judged p here entry) refl same
-  by_drawn (drawn.BadHead f) bad same = absurd (no_fault (failure f place None) es end same)
-  by_drawn (drawn.Short n ending.Clean) short same = at_end n short (ends here) refl (eqb n 0) refl same
-  by_drawn (drawn.Short n (ending.Broken f)) short same = absurd (no_fault _ es end same)
+    at_clean_end : cut.ending ≡ ending.Clean
+        → (a : Bool) → ends here ≡ a
+        → (z : Bool) → eqb cut.came 0 ≡ z
+        → told (cond (a && z) (closes here behind_it entry) (fails behind_it entry (failure step_fault.EndsEarly behind_it))) ≡ clean_answers es end
+        → WasBody here entry place bs e es end
+    at_clean_end clean true done true nothing same =
+        let (long, is) = short_is bs e cut short in
+        let none = eqb-true cut.came 0 nothing in
+        let (end_is, es-are) = ends_there behind_it es end same in
+        (sym is ∙ clean, end_is ∙ ap (λ x. stopped (place + x)) long, ([], nil_from_length bs (sym long ∙ none), (done, es-are)))
+    at_clean_end clean true done false inside same = absurd (no_fault (failure step_fault.EndsEarly behind_it) es end same)
+    at_clean_end clean false early z nothing same = absurd (no_fault (failure step_fault.EndsEarly behind_it) es end same)
+
+    at_ending : (f : Ending) → cut.ending ≡ f → told (settles_end here behind_it entry cut.came f) ≡ clean_answers es end → WasBody here entry place bs e es end
+    at_ending ending.Clean is same = at_clean_end is (ends here) refl (eqb cut.came 0) refl same
+    at_ending (ending.Broken f) is same = absurd (no_fault _ es end same)
+
+  by_drawn : (d : Result Packet NoPacket) → draws bs e ≡ d → told (settles (reading here entry place) here d) ≡ clean_answers es end → WasBody here entry place bs e es end
+  by_drawn (Ok p) whole same = whole_packet p whole (sized p) refl (judged p here entry) refl same
+  by_drawn (Err (BadHead f)) bad same = absurd (no_fault (failure (step_fault.Packet f) place) es end same)
+  by_drawn (Err (CutShort cut)) short same = at_ending cut short cut.ending refl same
 
 only_bodies : (k : ℕ) (e : Ending) (end : ℕ) → OnlyBodies k e end
-only_bodies zero e end here entry place bs [] same = absurd (zero_is_not_one (cc))
-only_bodies zero e end here entry place bs (x ∷ es) same = absurd (zero_is_not_one (cc))
+only_bodies zero e end here entry place bs [] same = absurd (cc)
+only_bodies zero e end here entry place bs (x ∷ es) same = absurd (cc)
 only_bodies (suc k) e end here entry place bs es same = by_drawn k e end (only_bodies k e end) here entry place bs es (draws bs e) refl same
 
 -- accepted packets lead to where a body may end

@@ -1,22 +1,23 @@
 -- A run faults at a packet exactly where no body goes on with it, and meets the limit exactly at the 256th header.
-use Rattle.std.proofs.Common.{◌≡◌, ℕ, suc, ◌+◌, ◌-◌, ◌≤◌, true, ◌⊎◌, ◌↔◌, List, [], ◌∷◌, ◌++◌, map, length, drop, None, Ok, Err, Option, Result, sym, refl, ap, ◌∙◌, subst, ap₂, inl, inr, append_assoc, append-nil, arith, length-append}
+use Rattle.std.proofs.Common.{◌≡◌, ℕ, suc, ◌+◌, ◌-◌, ◌≤◌, true, ◌⊎◌, ◌↔◌, List, [], ◌∷◌, ◌++◌, map, length, drop, Ok, Err, Option, Result, sym, refl, ap, ◌∙◌, subst, ap₂, inl, inr, append_assoc, append-nil, arith, length-append}
 use Rattle.std.proofs.ByRecursion.{All-append}
 use Rattle.std.proofs.lemmas.List.{append_cancel_left}
 use Rattle.std.proofs.lemmas.Bool.{cases_eq}
-use Rattle.carrier.specs.declared.Ending.{Ending}
-use Rattle.carrier.specs.declared.Ending.TheVariants as ending
+use Rattle.carrier.specs.declared.endings.Ending.{Ending}
+use Rattle.carrier.specs.declared.endings.Ending.TheVariants as ending
 use Rattle.packet.specs.declared.wire.Packet.{Packet}
 use Rattle.packet.specs.declared.grammar.BodyKind.{BodyKind}
 use Rattle.packet.specs.declared.grammar.Position.{Position}
 use Rattle.packet.specs.declared.grammar.Judged.{Judged}
 use Rattle.packet.specs.declared.grammar.Letter.TheVariants as letter
-use Rattle.packet.specs.declared.grammar.StepFault.{StepFault}
-use Rattle.packet.specs.declared.grammar.StepFault.TheVariants as fault
+use Rattle.packet.specs.declared.grammar.PacketFault.{PacketFault}
+use Rattle.packet.specs.declared.grammar.PacketFault.TheVariants as fault
 use Rattle.packet.specs.Judging.{judged, starts, behind, stopped, entry_limit}
 use Rattle.receiver.specs.declared.answers.Answer.{Answer}
 use Rattle.receiver.specs.declared.answers.Answer.TheVariants as answer
 use Rattle.receiver.specs.declared.answers.Failure.{Failure}
-use Rattle.receiver.specs.declared.drawing.Drawn.TheVariants as drawn
+use Rattle.receiver.specs.declared.answers.StepFault.TheVariants as step_fault
+use Rattle.receiver.specs.declared.drawing.NoPacket.{NoPacket}
 use Rattle.receiver.specs.Draws.{draws, used}
 use Rattle.receiver.specs.Steps.{failure}
 use Rattle.bodies.specs.Layout.{ByteString, Laid, AllLaid}
@@ -30,7 +31,7 @@ use Rattle.bodies.proofs.Reaching.{faults_where_no_body_goes_on, goes_on, limit_
 use Rattle.runs.specs.Answers.{run, answers}
 use Rattle.runs.specs.Bytes.{Bytes, BeginsABody}
 use Rattle.runs.specs.Laws.{FaultsBehind, FaultsOutOfPlace, FaultsExactlyWhereNoBodyGoesOn, LimitExactlyAtThe256thHeader}
-use Rattle.runs.proofs.Reading.{zero_is_not_one, laid_read}
+use Rattle.runs.proofs.Reading.{laid_read}
 use Rattle.runs.proofs.Running.{reading, left_over, run_over, run_fails, answers_behind}
 
 -- packets behind packets
@@ -42,9 +43,9 @@ bytes_append (p ∷ ps) more qs rs (payload, ws, rest, laid, is, bytes) behind =
 -- bytes that begin with those of packets begin with those packets
 same_packet : (p p' : Packet) (payload payload' ws ws' r r' : List ℕ) → Laid p payload ws → Laid p' payload' ws' → ws ++ r ≡ ws' ++ r' → (p' ≡ p) × (r' ≡ r)
 same_packet p p' payload payload' ws ws' r r' laid laid' same =
-    let whole : draws (ws ++ r) ending.Clean ≡ drawn.Whole p = (laid_read p payload ws laid).drawn_whole r ending.Clean in
-    let whole' : draws (ws' ++ r') ending.Clean ≡ drawn.Whole p' = (laid_read p' payload' ws' laid').drawn_whole r' ending.Clean in
-    let both : drawn.Whole p' ≡ drawn.Whole p = sym whole' ∙ ap (λ x. draws x ending.Clean) (sym same) ∙ whole in
+    let whole : draws (ws ++ r) ending.Clean ≡ Ok p = (laid_read p payload ws laid).drawn_whole r ending.Clean in
+    let whole' : draws (ws' ++ r') ending.Clean ≡ Ok p' = (laid_read p' payload' ws' laid').drawn_whole r' ending.Clean in
+    let both : ◌≡◌ {A = Result Packet NoPacket} (Ok p') (Ok p) = sym whole' ∙ ap (λ x. draws x ending.Clean) (sym same) ∙ whole in
     (cc, sym (left_over p' payload' ws' laid' r') ∙ ap (λ x. drop (used x) x) (sym same) ∙ left_over p payload ws laid r)
 
 first_packets : (ps : List Packet) (qs r : List ℕ) (all : List Packet) → Bytes ps qs → Bytes all (qs ++ r) → (more : List Packet) × (all ≡ ps ++ more)
@@ -119,25 +120,26 @@ module _ (b : BodyKind) (before : Option ℕ) (ps : List Packet) (qs : List ℕ)
     all_answers = answers b before (qs ++ (ws ++ rest)) e
 
     -- a fault is answered behind the packets exactly where it is the judgement of the next
-    fault_is : (f : StepFault) → FaultsBehind b before ps qs f all_answers → judged p here n ≡ Err f
+    fault_is : (f : PacketFault) → FaultsBehind b before ps qs f all_answers → judged p here n ≡ Err f
     fault_is f faults =
         let (at_place, told) = answers_behind b before ps qs (ws ++ rest) e here n place way bytes in
         go (append_cancel_left (map answer.Event (events b before ps)) _ _ (sym told ∙ faults)) (judged p here n) refl
       where
-        go : run (suc (length (qs ++ (ws ++ rest)) - length ps)) (reading here n place) (ws ++ rest) e ≡ answer.Failed (failure f (stopped (length qs)) None) ∷ []
-            → (r : Result Judged StepFault) → judged p here n ≡ r
+        go : run (suc (length (qs ++ (ws ++ rest)) - length ps)) (reading here n place) (ws ++ rest) e ≡ answer.Failed (failure (step_fault.Packet f) (stopped (length qs))) ∷ []
+            → (r : Result Judged PacketFault) → judged p here n ≡ r
             → judged p here n ≡ Err f
-        go same (Ok j) ok = absurd (zero_is_not_one (cc (run_over p payload ws laid here n place rest e (length (qs ++ (ws ++ rest)) - length ps) j ok)))
+        go same (Ok j) ok = absurd (cc (run_over p payload ws laid here n place rest e (length (qs ++ (ws ++ rest)) - length ps) j ok))
         go same (Err g) bad =
-            let failed : failure g place None ≡ failure f (stopped (length qs)) None = cc (run_fails p payload ws laid here n place rest e (length (qs ++ (ws ++ rest)) - length ps) g bad) in
-            bad ∙ ap (λ (x : Failure). Err x.fault) failed
+            let failed : failure (step_fault.Packet g) place ≡ failure (step_fault.Packet f) (stopped (length qs)) = cc (run_fails p payload ws laid here n place rest e (length (qs ++ (ws ++ rest)) - length ps) g bad) in
+            let same_fault : step_fault.Packet g ≡ step_fault.Packet f = ap (λ (x : Failure). x.fault) failed in
+            bad ∙ cc
 
-    faults_by : (f : StepFault) → judged p here n ≡ Err f → FaultsBehind b before ps qs f all_answers
+    faults_by : (f : PacketFault) → judged p here n ≡ Err f → FaultsBehind b before ps qs f all_answers
     faults_by f bad =
         let (at_place, told) = answers_behind b before ps qs (ws ++ rest) e here n place way bytes in
         told
         ∙ ap (λ x. map answer.Event (events b before ps) ++ x)
-        (run_fails p payload ws laid here n place rest e (length (qs ++ (ws ++ rest)) - length ps) f bad ∙ ap (λ x. answer.Failed (failure f x None) ∷ []) at_place)
+        (run_fails p payload ws laid here n place rest e (length (qs ++ (ws ++ rest)) - length ps) f bad ∙ ap (λ x. answer.Failed (failure (step_fault.Packet f) x) ∷ []) at_place)
 
     out_faults : OutOfPlace (judged p here n) → FaultsOutOfPlace b before ps qs all_answers
     out_faults (inl bad) = inl (faults_by fault.NotAllowedHere bad)

@@ -1,22 +1,19 @@
 -- A packet is read whole from the bytes that it is laid out in, and what is read whole is laid out so.
 use Rattle.std.proofs.Common.{◌≡◌, ℕ, suc, ◌+◌, ◌-◌, ◌≤◌, Bool, true, false, cond, eqb, leb, List, [], ◌∷◌, ◌++◌, length, take, drop, Some, None, Ok, Err, Option, Result, sym, refl, ap, ◌∙◌, subst, ap₂, arith, length-append, take-append-drop, length-take, eq-eqb, eqb-true, le-leb, leb-true}
 use Rattle.std.proofs.lemmas.Bool.{cond-true}
-use Rattle.carrier.specs.declared.Ending.{Ending}
+use Rattle.carrier.specs.declared.endings.Ending.{Ending}
+use Rattle.carrier.specs.declared.filling.Short.{Short}
 use Rattle.packet.specs.declared.wire.Kind.{Kind}
 use Rattle.packet.specs.declared.wire.Kind.TheVariants as kind
 use Rattle.packet.specs.declared.wire.Head.{Head}
 use Rattle.packet.specs.declared.wire.Fields.{Fields}
 use Rattle.packet.specs.declared.wire.Packet.{Packet}
-use Rattle.packet.specs.Wire.{mark, kind_of, le2, of_kind, head_of, lawful, framed, fields_of, sized_as, sized}
-use Rattle.packet.specs.declared.grammar.StepFault.{StepFault}
-use Rattle.packet.specs.declared.grammar.StepFault.TheVariants as fault
-use Rattle.receiver.specs.declared.drawing.Drawn.TheVariants as drawn
-use Rattle.receiver.specs.Draws.{packet_of, headed, headed_used, draws, used}
+use Rattle.packet.specs.Wire.{mark, kind_of, le2, of_kind, head_of, lawful, framed, fixed, fields_of, sized_as, sized}
+use Rattle.packet.specs.declared.grammar.PacketFault.{PacketFault}
+use Rattle.packet.specs.declared.grammar.PacketFault.TheVariants as fault
+use Rattle.receiver.specs.declared.drawing.NoPacket.TheVariants.{CutShort}
+use Rattle.receiver.specs.Draws.{packet_of, cut_short, headed, headed_used, headed_front, draws, used, front}
 use Rattle.bodies.specs.Layout.{letter, Notice, Framed, Bare, Laid}
-
--- what two constructors that are equal come to
-pub zero_is_not_one : ◌≡◌ {A = ℕ} 0 1 → ⊥
-zero_is_not_one e = omega arith
 
 -- the bytes ws are the head of p and as many bytes behind it as it announces, among them p's fields
 record Parts (p : Packet) (ws : List ℕ) : Type 0 where
@@ -103,8 +100,9 @@ head_read k l m n is ok = ap (λ x. of_kind x (le2 l m)) (named k) ∙ rw (is, o
 pub record Read (p : Packet) (ws : List ℕ) : Type 0 where
   pub size : length ws ≡ 4 + p.length
   pub right : sized p ≡ true
-  pub drawn_whole : (r : List ℕ) (e : Ending) → draws (ws ++ r) e ≡ drawn.Whole p
+  pub drawn_whole : (r : List ℕ) (e : Ending) → draws (ws ++ r) e ≡ Ok p
   pub used_whole : (r : List ℕ) → used (ws ++ r) ≡ length ws
+  pub front_whole : (r : List ℕ) → front (ws ++ r) ≡ take (p.length - fixed p.kind) (drop (fixed p.kind) (drop 4 (ws ++ r)))
 
 module _ (p : Packet) (ws : List ℕ) (parts : Parts p ws) where
   open parts use {low, high, rest, whole, announced, allowed, long, fields, right}
@@ -119,13 +117,13 @@ module _ (p : Packet) (ws : List ℕ) (parts : Parts p ws) where
     enough : p.length ≤ length (rest ++ r)
     enough = simp length-append (omega arith)
 
-  parts_drawn : (r : List ℕ) (e : Ending) → draws (ws ++ r) e ≡ drawn.Whole p
+  parts_drawn : (r : List ℕ) (e : Ending) → draws (ws ++ r) e ≡ Ok p
   parts_drawn r e =
       ap (λ x. draws (x ++ r) e) whole
       ∙ cond-true _ _ _ (four r)
       ∙ ap (λ x. headed x (rest ++ r) e) head
       ∙ cond-true _ _ _ (le-leb p.length (length (rest ++ r)) (enough r))
-      ∙ ap (λ x. drawn.Whole (record { kind = p.kind; length = p.length; fields = x })) (fields r)
+      ∙ ap (λ x. Ok (record { kind = p.kind; length = p.length; fields = x })) (fields r)
 
   parts_size : length ws ≡ 4 + p.length
   parts_size = ap length whole ∙ omega arith
@@ -139,8 +137,15 @@ module _ (p : Packet) (ws : List ℕ) (parts : Parts p ws) where
       ∙ ap (λ x. headed_used x (rest ++ r)) head
       ∙ omega arith
 
+  parts_front : (r : List ℕ) → front (ws ++ r) ≡ take (p.length - fixed p.kind) (drop (fixed p.kind) (drop 4 (ws ++ r)))
+  parts_front r =
+      ap (λ x. front (x ++ r)) whole
+      ∙ cond-true _ _ _ (four r)
+      ∙ ap (λ x. headed_front x (rest ++ r)) head
+      ∙ ap (λ x. take (p.length - fixed p.kind) (drop (fixed p.kind) (drop 4 (x ++ r)))) (sym whole)
+
   parts_read : Read p ws
-  parts_read = record { size = parts_size; right = right; drawn_whole = parts_drawn; used_whole = parts_used }
+  parts_read = record { size = parts_size; right = right; drawn_whole = parts_drawn; used_whole = parts_used; front_whole = parts_front }
 
 pub laid_read : (p : Packet) (payload ws : List ℕ) → Laid p payload ws → Read p ws
 laid_read p payload ws laid = parts_read p ws (parts_as p.kind p.length p.fields payload ws laid)
@@ -160,7 +165,7 @@ letter_is y k =
     (named_by y kind.EndOfStream k _
     (named_by y kind.Header k _
     (named_by y kind.Metadata k _
-    (named_by y kind.PacketPair k None (λ none. absurd (zero_is_not_one (cc))))))))
+    (named_by y kind.PacketPair k None (λ none. absurd (cc)))))))
 
 -- what four bytes are that make a head
 record Headed (x y l m : ℕ) (h : Head) : Type 0 where
@@ -173,12 +178,12 @@ head_is : (x y l m : ℕ) (h : Head) → head_of (x ∷ y ∷ l ∷ m ∷ []) �
 head_is x y l m h = go (eqb x mark) refl (kind_of y) refl
   where
     go : (b : Bool) → eqb x mark ≡ b → (o : Option Kind) → kind_of y ≡ o → cond b (of_kind o (le2 l m)) (Err fault.Mark) ≡ Ok h → Headed x y l m h
-    go false other o named is = absurd (zero_is_not_one (cc))
-    go true same None named is = absurd (zero_is_not_one (cc))
+    go false other o named is = absurd (cc)
+    go true same None named is = absurd (cc)
     go true same (Some k) named is = lawfully (lawful k (le2 l m)) refl is
       where
         lawfully : (b : Bool) → lawful k (le2 l m) ≡ b → cond b (Ok (record { kind = k; length = le2 l m })) (Err fault.PacketLength) ≡ Ok h → Headed x y l m h
-        lawfully false unlawful is = absurd (zero_is_not_one (cc))
+        lawfully false unlawful is = absurd (cc)
         lawfully true ok is =
             let made : record { kind = k; length = le2 l m } ≡ h = cc in
             subst (Headed x y l m) made (record { marked = eqb-true x mark same; letter_of = letter_is y k named; announced = refl; allowed = ok })
@@ -264,11 +269,11 @@ behind_four : (x y l m : ℕ) (bs : List ℕ) (e : Ending) → draws (x ∷ y �
 behind_four x y l m bs e = cond-true _ _ _ (le-leb 4 (length (x ∷ y ∷ l ∷ m ∷ bs)) (omega arith))
 
 -- a packet that is drawn whole, with the right PacketSize, stands in front of the bytes
-pub drawn_laid : (bs : List ℕ) (e : Ending) (p : Packet) → draws bs e ≡ drawn.Whole p → sized p ≡ true → (payload ws r : List ℕ) × Laid p payload ws × (bs ≡ ws ++ r)
-drawn_laid [] e p whole right = absurd (zero_is_not_one (cc))
-drawn_laid (x ∷ []) e p whole right = absurd (zero_is_not_one (cc))
-drawn_laid (x ∷ y ∷ []) e p whole right = absurd (zero_is_not_one (cc))
-drawn_laid (x ∷ y ∷ l ∷ []) e p whole right = absurd (zero_is_not_one (cc))
+pub drawn_laid : (bs : List ℕ) (e : Ending) (p : Packet) → draws bs e ≡ Ok p → sized p ≡ true → (payload ws r : List ℕ) × Laid p payload ws × (bs ≡ ws ++ r)
+drawn_laid [] e p whole right = absurd (cc)
+drawn_laid (x ∷ []) e p whole right = absurd (cc)
+drawn_laid (x ∷ y ∷ []) e p whole right = absurd (cc)
+drawn_laid (x ∷ y ∷ l ∷ []) e p whole right = absurd (cc)
 drawn_laid (x ∷ y ∷ l ∷ m ∷ bs) e p whole right = go (head_of (x ∷ y ∷ l ∷ m ∷ [])) refl (sym (behind_four x y l m bs e) ∙ whole)
   where
     laid_by : (h : Head) → Headed x y l m h → h.length ≤ length bs → packet_of h bs ≡ p → (payload ws r : List ℕ) × Laid p payload ws × (x ∷ y ∷ l ∷ m ∷ bs ≡ ws ++ r)
@@ -284,34 +289,34 @@ drawn_laid (x ∷ y ∷ l ∷ m ∷ bs) e p whole right = go (head_of (x ∷ y �
     behind_head : (h : Head)
         → head_of (x ∷ y ∷ l ∷ m ∷ []) ≡ Ok h
         → (b : Bool) → leb h.length (length bs) ≡ b
-        → cond b (drawn.Whole (packet_of h bs)) (drawn.Short (4 + length bs) e) ≡ drawn.Whole p
+        → cond b (Ok (packet_of h bs)) (Err (cut_short (4 + length bs) e)) ≡ Ok p
         → (payload ws r : List ℕ) × Laid p payload ws × (x ∷ y ∷ l ∷ m ∷ bs ≡ ws ++ r)
     behind_head h is true enough same = laid_by h (head_is x y l m h is) (leb-true h.length (length bs) enough) (cc)
-    behind_head h is false few same = absurd (zero_is_not_one (cc))
+    behind_head h is false few same = absurd (cc)
 
-    go : (r : Result Head StepFault)
+    go : (r : Result Head PacketFault)
         → head_of (x ∷ y ∷ l ∷ m ∷ []) ≡ r
-        → headed r bs e ≡ drawn.Whole p
+        → headed r bs e ≡ Ok p
         → (payload ws r : List ℕ) × Laid p payload ws × (x ∷ y ∷ l ∷ m ∷ bs ≡ ws ++ r)
-    go (Err f) is same = absurd (zero_is_not_one (cc))
+    go (Err f) is same = absurd (cc)
     go (Ok h) is same = behind_head h is (leb h.length (length bs)) refl same
 
 -- too few bytes are all the bytes there are
-pub short_is : (bs : List ℕ) (e : Ending) (n : ℕ) (f : Ending) → draws bs e ≡ drawn.Short n f → (n ≡ length bs) × (f ≡ e)
-short_is [] e n f short = (cc, cc)
-short_is (x ∷ []) e n f short = (cc, cc)
-short_is (x ∷ y ∷ []) e n f short = (cc, cc)
-short_is (x ∷ y ∷ l ∷ []) e n f short = (cc, cc)
-short_is (x ∷ y ∷ l ∷ m ∷ bs) e n f short = go (head_of (x ∷ y ∷ l ∷ m ∷ [])) (sym (behind_four x y l m bs e) ∙ short)
+pub short_is : (bs : List ℕ) (e : Ending) (cut : Short) → draws bs e ≡ Err (CutShort cut) → (cut.came ≡ length bs) × (cut.ending ≡ e)
+short_is [] e cut short = (cc, cc)
+short_is (x ∷ []) e cut short = (cc, cc)
+short_is (x ∷ y ∷ []) e cut short = (cc, cc)
+short_is (x ∷ y ∷ l ∷ []) e cut short = (cc, cc)
+short_is (x ∷ y ∷ l ∷ m ∷ bs) e cut short = go (head_of (x ∷ y ∷ l ∷ m ∷ [])) (sym (behind_four x y l m bs e) ∙ short)
   where
     behind_head : (h : Head) (b : Bool)
-        → cond b (drawn.Whole (packet_of h bs)) (drawn.Short (4 + length bs) e) ≡ drawn.Short n f
-        → (n ≡ length (x ∷ y ∷ l ∷ m ∷ bs)) × (f ≡ e)
-    behind_head h true same = absurd (zero_is_not_one (cc))
+        → cond b (Ok (packet_of h bs)) (Err (cut_short (4 + length bs) e)) ≡ Err (CutShort cut)
+        → (cut.came ≡ length (x ∷ y ∷ l ∷ m ∷ bs)) × (cut.ending ≡ e)
+    behind_head h true same = absurd (cc)
     behind_head h false same =
-        let long : n ≡ 4 + length bs = cc in
+        let long : cut.came ≡ 4 + length bs = cc in
         (omega arith, cc)
 
-    go : (r : Result Head StepFault) → headed r bs e ≡ drawn.Short n f → (n ≡ length (x ∷ y ∷ l ∷ m ∷ bs)) × (f ≡ e)
-    go (Err fault) same = absurd (zero_is_not_one (cc))
+    go : (r : Result Head PacketFault) → headed r bs e ≡ Err (CutShort cut) → (cut.came ≡ length (x ∷ y ∷ l ∷ m ∷ bs)) × (cut.ending ≡ e)
+    go (Err fault) same = absurd (cc)
     go (Ok h) same = behind_head h (leb h.length (length bs)) same

@@ -1,23 +1,23 @@
 -- Steps over packets, one by one.
-use Rattle.std.proofs.Common.{◌≡◌, ℕ, suc, ◌+◌, ◌-◌, ◌≤◌, true, List, [], ◌∷◌, ◌++◌, map, length, drop, None, Ok, Err, Option, sym, refl, ap, ◌∙◌, ap₂, append_assoc, suc-add, zero-add, arith, length-append}
+use Rattle.std.proofs.Common.{◌≡◌, ℕ, suc, ◌+◌, ◌-◌, ◌≤◌, true, List, [], ◌∷◌, ◌++◌, map, length, drop, Ok, Err, Option, sym, refl, ap, ◌∙◌, ap₂, append_assoc, suc-add, zero-add, arith, length-append}
 use lib.Seq.{drop-append_seam}
 use Rattle.std.proofs.lemmas.Bool.{cond-true}
-use Rattle.carrier.specs.declared.Ending.{Ending}
-use Rattle.carrier.specs.declared.Ending.TheVariants as ending
+use Rattle.carrier.specs.declared.endings.Ending.{Ending}
+use Rattle.carrier.specs.declared.endings.Ending.TheVariants as ending
 use Rattle.packet.specs.declared.wire.Packet.{Packet}
 use Rattle.packet.specs.declared.grammar.BodyKind.{BodyKind}
 use Rattle.packet.specs.declared.grammar.Position.{Position}
 use Rattle.packet.specs.declared.grammar.Event.{Event}
 use Rattle.packet.specs.declared.grammar.Judged.{Judged}
-use Rattle.packet.specs.declared.grammar.StepFault.{StepFault}
+use Rattle.packet.specs.declared.grammar.PacketFault.{PacketFault}
 use Rattle.packet.specs.Judging.{judged, starts, ends, behind, stopped, event}
 use Rattle.receiver.specs.declared.answers.Answer.{Answer}
 use Rattle.receiver.specs.declared.answers.Answer.TheVariants as answer
+use Rattle.receiver.specs.declared.answers.StepFault.TheVariants as step_fault
 use Rattle.receiver.specs.declared.standings.Progress.TheVariants as progress
 use Rattle.receiver.specs.declared.standings.Standing.{Standing}
-use Rattle.receiver.specs.declared.standings.Settled.{Settled}
 use Rattle.receiver.specs.Draws.{used}
-use Rattle.receiver.specs.Steps.{steps, settles, settles_packet, failure}
+use Rattle.receiver.specs.Steps.{Settled, steps, settles, settles_packet, failure}
 use Rattle.bodies.specs.Layout.{Laid}
 use Rattle.bodies.specs.Told.{bytes_of, events_behind, events, Reached}
 use Rattle.bodies.proofs.Accepting.{Stands, stands_first, stands_next, told_next}
@@ -48,7 +48,7 @@ module _ (p : Packet) (payload ws : List ℕ) (laid : Laid p payload ws) where
         ap (λ (s : Settled). goes_on s.answer (run k s.standing (drop (used (ws ++ r)) (ws ++ r)) e)) (steps_over ∙ ap (settles_packet (reading here entry place) p) ok)
         ∙ ap (λ bs. answer.Event (event p place j) ∷ run k (reading j.next j.entry (behind place p.length)) bs e) (left_over r)
 
-    pub run_fails : (k : ℕ) (f : StepFault) → judged p here entry ≡ Err f → run (suc k) (reading here entry place) (ws ++ r) e ≡ answer.Failed (failure f place None) ∷ []
+    pub run_fails : (k : ℕ) (f : PacketFault) → judged p here entry ≡ Err f → run (suc k) (reading here entry place) (ws ++ r) e ≡ answer.Failed (failure (step_fault.Packet f) place) ∷ []
     run_fails k f bad = ap (λ (s : Settled). goes_on s.answer (run k s.standing (drop (used (ws ++ r)) (ws ++ r)) e)) (steps_over ∙ ap (settles_packet (reading here entry place) p) bad)
 
 -- the Step behind the last byte, where a body may end

@@ -1,14 +1,11 @@
 -- A run of Steps, one Step at a time.
-use Rattle.std.proofs.Common.{◌≡◌, ℕ, zero, suc, ◌<◌, ◌≤◌, List, ◌∷◌, length, drop, Ok, Result, refl, ap, ◌∙◌, arith, length-drop}
-use Rattle.std.proofs.lemmas.Bool.{le-leb}
-use Rattle.carrier.specs.declared.Ending.{Ending}
-use Rattle.packet.specs.declared.grammar.Event.{Event}
+use Rattle.std.proofs.Common.{◌≡◌, ℕ, zero, suc, ◌<◌, List, ◌∷◌, length, drop, refl, ap, ◌∙◌, arith, length-drop}
+use Rattle.carrier.specs.declared.endings.Ending.{Ending}
 use Rattle.receiver.specs.declared.answers.Answer.{Answer}
 use Rattle.receiver.specs.declared.answers.Answer.TheVariants as answer
-use Rattle.receiver.specs.declared.answers.StepRefusal.{StepRefusal}
 use Rattle.receiver.specs.declared.standings.Standing.{Standing}
 use Rattle.receiver.specs.Draws.{used}
-use Rattle.receiver.specs.Steps.{steps, work_length, stepped, step_standing, step_used}
+use Rattle.receiver.specs.Steps.{steps}
 use Rattle.receiver.proofs.Uses.{event_uses}
 use Rattle.runs.specs.Answers.{goes_on, run, answers_from}
 
@@ -35,14 +32,3 @@ answers_next s bs e (answer.Event ev) is =
     ∙ ap (λ l. answer.Event ev ∷ l) (run_enough (length bs) (suc (length (drop (used bs) bs))) (steps s bs e).standing (drop (used bs) bs) e (omega arith) (omega arith))
 answers_next s bs e (answer.End place) is = ap (λ x. goes_on x (run (length bs) (steps s bs e).standing (drop (used bs) bs) e)) is
 answers_next s bs e (answer.Failed f) is = ap (λ x. goes_on x (run (length bs) (steps s bs e).standing (drop (used bs) bs) e)) is
-
--- a Step with a work buffer that is long enough, answered
-module _ (s : Standing) (room : ℕ) (bs : List ℕ) (e : Ending) (long : work_length ≤ room) where
-  pub step_answers : (a : Answer) → ◌≡◌ {A = Result Answer StepRefusal} (Ok a) (stepped s room bs e) → (steps s bs e).answer ≡ a
-  step_answers a is = let l = le-leb work_length room long in let h : ◌≡◌ {A = Result Answer StepRefusal} (Ok a) (Ok (steps s bs e).answer) = rw l at is in cc
-
-  pub step_stands : step_standing s room bs e ≡ (steps s bs e).standing
-  step_stands = rw (le-leb work_length room long)
-
-  pub step_uses : (ev : Event) → (steps s bs e).answer ≡ answer.Event ev → step_used s room bs ≡ used bs
-  step_uses ev is = rw (le-leb work_length room long, (event_uses s bs e ev is).0.1)

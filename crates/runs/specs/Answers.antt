@@ -1,6 +1,6 @@
 -- The answers of a run of Steps, each with a work buffer that is long enough, up to the end or a fault.
 use Rattle.std.specs.Prelude.{ℕ, zero, suc, List, [], ◌∷◌, length, drop, Option}
-use Rattle.carrier.specs.declared.Ending.{Ending}
+use Rattle.carrier.specs.declared.endings.Ending.{Ending}
 use Rattle.packet.specs.declared.grammar.BodyKind.{BodyKind}
 use Rattle.receiver.specs.declared.answers.Answer.{Answer}
 use Rattle.receiver.specs.declared.answers.Answer.TheVariants as answer

@@ -1,18 +1,19 @@
 -- What a run of Steps comes to, in terms of the grammar of bodies.
-use Rattle.std.specs.Prelude.{◌≡◌, ℕ, ◌≤◌, true, ◌⊎◌, ◌↔◌, List, [], ◌∷◌, ◌++◌, map, length, None, Option}
-use Rattle.carrier.specs.declared.Ending.{Ending}
-use Rattle.carrier.specs.declared.Ending.TheVariants as ending
+use Rattle.std.specs.Prelude.{◌≡◌, ℕ, ◌≤◌, true, ◌⊎◌, ◌↔◌, List, [], ◌∷◌, ◌++◌, map, length, Option}
+use Rattle.carrier.specs.declared.endings.Ending.{Ending}
+use Rattle.carrier.specs.declared.endings.Ending.TheVariants as ending
 use Rattle.packet.specs.declared.wire.Packet.{Packet}
 use Rattle.packet.specs.declared.grammar.BodyKind.{BodyKind}
 use Rattle.packet.specs.declared.grammar.Event.{Event}
-use Rattle.packet.specs.declared.grammar.StepFault.{StepFault}
-use Rattle.packet.specs.declared.grammar.StepFault.TheVariants as fault
+use Rattle.packet.specs.declared.grammar.PacketFault.{PacketFault}
+use Rattle.packet.specs.declared.grammar.PacketFault.TheVariants as fault
 use Rattle.packet.specs.Judging.{stopped, entry_limit}
 use Rattle.bodies.specs.Layout.{ByteString, Laid}
 use Rattle.bodies.specs.Grammar.{Body}
 use Rattle.bodies.specs.Told.{events, headers, completes}
 use Rattle.receiver.specs.declared.answers.Answer.{Answer}
 use Rattle.receiver.specs.declared.answers.Answer.TheVariants as answer
+use Rattle.receiver.specs.declared.answers.StepFault.TheVariants as step_fault
 use Rattle.receiver.specs.Steps.{failure}
 use Rattle.runs.specs.Answers.{answers}
 use Rattle.runs.specs.Bytes.{Bytes, BeginsABody}
@@ -25,8 +26,8 @@ EndsCleanExactlyForBodies =
     ↔ ((e ≡ ending.Clean) × (place ≡ stopped (length bs)) × ((ps : List Packet) × Bytes ps bs × Body b before ps × (headers ps ≤ entry_limit) × (es ≡ events b before ps)))
 
 -- the answers to packets that came before, and then a fault at the place behind them
-abbrev pub FaultsBehind : BodyKind → Option ℕ → List Packet → List ℕ → StepFault → List Answer → Type 0
-FaultsBehind b before ps qs f told = told ≡ map answer.Event (events b before ps) ++ (answer.Failed (failure f (stopped (length qs)) None) ∷ [])
+abbrev pub FaultsBehind : BodyKind → Option ℕ → List Packet → List ℕ → PacketFault → List Answer → Type 0
+FaultsBehind b before ps qs f told = told ≡ map answer.Event (events b before ps) ++ (answer.Failed (failure (step_fault.Packet f) (stopped (length qs))) ∷ [])
 
 -- the same with a fault 26, 25 or 27: a packet that is not allowed there, by its kind, its marks or its Incarnation
 abbrev pub FaultsOutOfPlace : BodyKind → Option ℕ → List Packet → List ℕ → List Answer → Type 0
