@@ -1,25 +1,24 @@
 -- The packets of the bytes, one behind the other, up to the last answer.
-use Rattle.std.proofs.Common.{◌≡◌, ℕ, zero, suc, ◌+◌, ◌<◌, Bool, true, false, cond, ◌&&◌, eqb, List, [], ◌∷◌, ◌++◌, map, length, None, Ok, Err, Option, Result, sym, refl, ap, ◌∙◌, subst, ap₂, append_assoc, arith, length-append}
-use Rattle.carrier.specs.declared.Ending.{Ending}
-use Rattle.carrier.specs.declared.Ending.TheVariants as ending
+use Rattle.std.proofs.Common.{◌≡◌, ℕ, zero, suc, ◌+◌, ◌<◌, Bool, true, false, cond, ◌&&◌, eqb, List, [], ◌∷◌, ◌++◌, map, length, Ok, Err, Option, Result, sym, refl, ap, ◌∙◌, subst, append_assoc, arith, length-append}
+use Rattle.carrier.specs.declared.endings.Ending.{Ending}
+use Rattle.carrier.specs.declared.endings.Ending.TheVariants as ending
 use Rattle.packet.specs.declared.wire.Packet.{Packet}
 use Rattle.packet.specs.declared.grammar.Position.{Position}
-use Rattle.packet.specs.declared.grammar.Event.{Event}
 use Rattle.packet.specs.declared.grammar.Judged.{Judged}
-use Rattle.packet.specs.declared.grammar.StepFault.{StepFault}
-use Rattle.packet.specs.declared.grammar.StepFault.TheVariants as fault
+use Rattle.packet.specs.declared.grammar.PacketFault.{PacketFault}
+use Rattle.packet.specs.declared.grammar.PacketFault.TheVariants as fault
 use Rattle.packet.specs.Wire.{sized}
 use Rattle.packet.specs.Judging.{judged, ends, behind, stopped, event}
 use Rattle.receiver.specs.declared.answers.Answer.{Answer}
 use Rattle.receiver.specs.declared.answers.Answer.TheVariants as answer
 use Rattle.receiver.specs.declared.answers.Failure.{Failure}
-use Rattle.receiver.specs.declared.drawing.Drawn.{Drawn}
-use Rattle.receiver.specs.declared.drawing.Drawn.TheVariants as drawn
+use Rattle.receiver.specs.declared.answers.StepFault.TheVariants as step_fault
+use Rattle.receiver.specs.declared.drawing.NoPacket.{NoPacket}
+use Rattle.receiver.specs.declared.drawing.NoPacket.TheVariants.{BadHead, CutShort}
 use Rattle.receiver.specs.declared.standings.Standing.{Standing}
-use Rattle.receiver.specs.declared.standings.Settled.{Settled}
 use Rattle.receiver.specs.declared.standings.Progress.TheVariants as progress
 use Rattle.receiver.specs.Draws.{draws, used, ran_out}
-use Rattle.receiver.specs.Steps.{steps, settles, settles_packet, settles_end, closes, fails, failure}
+use Rattle.receiver.specs.Steps.{Settled, steps, settles, settles_packet, settles_end, closes, fails, failure}
 use Rattle.bodies.specs.Layout.{Laid}
 use Rattle.bodies.specs.Told.{events_behind}
 use Rattle.bodies.proofs.Accepting.{Stands, stands_next, told_next}
@@ -57,14 +56,14 @@ Course e rest last here n place (p ∷ ps) bs =
 
 -- where a Step does not come to an event, it ends the run
 module _ (here : Position) (n : ℕ) (bs : List ℕ) where
-  faults : (f : StepFault) (carrier : Option _) (at_place place' k : ℕ) → Shows f k bs → Settles here bs k false (fails place' n (failure f at_place carrier))
-  faults f carrier at_place place' k (shows, tells) = record { last = tt; uses = shows; tells = sym tells; over = Over.failed place' n (failure f at_place carrier) }
+  faults : (f : PacketFault) (at_place place' k : ℕ) → Shows f k bs → Settles here bs k false (fails place' n (failure (step_fault.Packet f) at_place))
+  faults f at_place place' k shows = record { last = tt; uses = shows; tells = refl; over = Over.failed place' n (failure (step_fault.Packet f) at_place) }
 
   ends_run : (k place' : ℕ) (e : Ending) → Settles here bs (length bs) true (settles_end here place' n k e)
   ends_run k place' (ending.Broken f) = record { last = tt; uses = refl; tells = refl; over = Over.failed place' n _ }
   ends_run k place' ending.Clean = go (ends here && eqb k 0)
     where
-      go : (b : Bool) → Settles here bs (length bs) true (cond b (closes here place' n) (fails place' n (failure fault.EndsEarly place' None)))
+      go : (b : Bool) → Settles here bs (length bs) true (cond b (closes here place' n) (fails place' n (failure step_fault.EndsEarly place')))
       go true = record { last = tt; uses = refl; tells = refl; over = Over.ended place' n }
       go false = record { last = tt; uses = refl; tells = refl; over = Over.failed place' n _ }
 
@@ -73,18 +72,18 @@ abbrev pub Charted : Ending → Position → ℕ → ℕ → List ℕ → Type 0
 Charted e here n place bs = (ps : List Packet) × (rest : List ℕ) × (last : Answer) × Course e rest last here n place ps bs
 
 module _ (e : Ending) (here : Position) (n place : ℕ) (bs : List ℕ) where
-  stops_here : (d : Drawn) → draws bs e ≡ d → Settles here bs (used bs) (ran_out d) (settles (reading here n place) here d) → Charted e here n place bs
+  stops_here : (d : Result Packet NoPacket) → draws bs e ≡ d → Settles here bs (used bs) (ran_out d) (settles (reading here n place) here d) → Charted e here n place bs
   stops_here d is so = (
     [],
     bs,
     (steps (reading here n place) bs e).answer,
-    (refl, record { answers = refl; settles = subst (λ (x : Drawn). Settles here bs (used bs) (ran_out x) (settles (reading here n place) here x)) (sym is) so }),
+    (refl, record { answers = refl; settles = rw is so }),
   )
 
   abbrev Shorter : Type 0
   Shorter = (here' : Position) (n' place' : ℕ) (r : List ℕ) → length r < length bs → Charted e here' n' place' r
 
-  goes_over : Shorter → (p : Packet) → draws bs e ≡ drawn.Whole p → sized p ≡ true → (j : Judged) → judged p here n ≡ Ok j → Charted e here n place bs
+  goes_over : Shorter → (p : Packet) → draws bs e ≡ Ok p → sized p ≡ true → (j : Judged) → judged p here n ≡ Ok j → Charted e here n place bs
   goes_over more p whole right j ok =
       let (payload, ws, r, laid, is) = drawn_laid bs e p whole right in
       let size = (laid_read p payload ws laid).size in
@@ -93,22 +92,21 @@ module _ (e : Ending) (here : Position) (n place : ℕ) (bs : List ℕ) where
       (p ∷ ps, rest, last, (payload, ws, r, laid, is, (j, ok, course)))
 
   -- a packet that is drawn whole
-  whole_packet : Shorter → (p : Packet) → draws bs e ≡ drawn.Whole p
+  whole_packet : Shorter → (p : Packet) → draws bs e ≡ Ok p
       → used bs ≡ announced bs
       → (b : Bool) → sized p ≡ b
-      → (r : Result Judged StepFault) → judged p here n ≡ r
+      → (r : Result Judged PacketFault) → judged p here n ≡ r
       → Charted e here n place bs
   whole_packet more p whole uses true right (Ok j) ok = goes_over more p whole right j ok
   whole_packet more p whole uses true right (Err f) bad =
-      let (shows, tells) = out_shows p here n f bs bad in
-      stops_here (drawn.Whole p) whole (rw (right, bad) (faults here n bs f None place (behind place p.length) (used bs) (uses ∙ shows, tells)))
+      stops_here (Ok p) whole (rw (right, bad) (faults here n bs f place (behind place p.length) (used bs) (uses ∙ out_shows p here n f bs bad)))
   whole_packet more p whole uses false wrong r judgement =
-      stops_here (drawn.Whole p) whole (rw wrong (faults here n bs fault.PacketSize None place (behind place p.length) (used bs) (uses, refl)))
+      stops_here (Ok p) whole (rw wrong (faults here n bs fault.PacketSize place (behind place p.length) (used bs) uses))
 
-  by_drawn : Shorter → (d : Drawn) → draws bs e ≡ d → Uses d (used bs) bs → Charted e here n place bs
-  by_drawn more (drawn.Whole p) is uses = whole_packet more p is uses (sized p) refl (judged p here n) refl
-  by_drawn more (drawn.BadHead f) is shows = stops_here (drawn.BadHead f) is (faults here n bs f None place (stopped (place + 4)) (used bs) shows)
-  by_drawn more (drawn.Short k x) is uses = stops_here (drawn.Short k x) is (rw uses (ends_run here n bs k (stopped (place + k)) x))
+  by_drawn : Shorter → (d : Result Packet NoPacket) → draws bs e ≡ d → Uses d (used bs) bs → Charted e here n place bs
+  by_drawn more (Ok p) is uses = whole_packet more p is uses (sized p) refl (judged p here n) refl
+  by_drawn more (Err (BadHead f)) is shows = stops_here (Err (BadHead f)) is (faults here n bs f place (stopped (place + 4)) (used bs) shows)
+  by_drawn more (Err (CutShort c)) is uses = stops_here (Err (CutShort c)) is (rw uses (ends_run here n bs c.came (stopped (place + c.came)) c.ending))
 
 charted_within : (k : ℕ) (e : Ending) (here : Position) (n place : ℕ) (bs : List ℕ) → length bs < k → Charted e here n place bs
 charted_within zero e here n place bs few = absurd (omega arith)
@@ -148,10 +146,8 @@ module _ (e : Ending) (rest : List ℕ) (last : Answer) where
       → Course e rest last here n place ps bs
       → answers_from (reading here n place) bs e ≡ map answer.Event (events_behind now done ps) ++ (last ∷ [])
   course_answers [] now done here n place bs stands (is, stops) =
-      ap (λ x. answers_from (reading here n place) x e) is ∙ answers_next (reading here n place) rest e last stops.answers ∙ alone last _ (stop_ends here n place stops)
+      rw is (answers_next (reading here n place) rest e last stops.answers ∙ alone last _ (stop_ends here n place stops))
   course_answers (p ∷ ps) now done here n place bs stands (payload, ws, r, laid, is, (j, ok, course)) =
       let step = packet_step p payload ws r laid here n place e j ok in
-      ap (λ x. answers_from (reading here n place) x e) is
-      ∙ answers_next (reading here n place) (ws ++ r) e (answer.Event (event p place j)) (ap (λ (x : Settled). x.answer) step)
-      ∙ ap₂ (λ (x : Settled) (y : List ℕ). answer.Event (event p place j) ∷ answers_from x.standing y e) step (left_over p payload ws laid r)
-      ∙ ap₂ (λ (x : Event) (xs : List Answer). answer.Event x ∷ xs) (sym (told_next stands p j ok)) (course_answers ps now (done ++ (p ∷ [])) j.next j.entry (behind place p.length) r (stands_next stands p j ok) course)
+      let more = course_answers ps now (done ++ (p ∷ [])) j.next j.entry (behind place p.length) r (stands_next stands p j ok) course in
+      rw (is, answers_next (reading here n place) (ws ++ r) e (answer.Event (event p place j)) (ap (λ (x : Settled). x.answer) step), step, left_over p payload ws laid r, told_next stands p j ok, more) refl

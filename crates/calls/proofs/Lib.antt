@@ -1,4 +1,3 @@
-mod Lending
 mod Turning
 mod Outcoming
 pub mod Showing

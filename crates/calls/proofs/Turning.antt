@@ -1,63 +1,58 @@
 -- A list of calls, one call at a time.
-use Rattle.std.proofs.Common.{◌≡◌, ℕ, ◌+◌, Bool, true, false, ◌||◌, List, [], ◌∷◌, ◌++◌, drop, sym, refl, ap, ◌∙◌, subst, append_assoc, append-nil, add_assoc, zero-add, arith}
-use Rattle.carrier.specs.declared.Ending.{Ending}
+use Rattle.std.proofs.Common.{◌≡◌, ℕ, List, [], ◌∷◌, ◌++◌, refl, ap, ◌∙◌, append_assoc, append-nil, add-zero, add_assoc, zero-add}
+use mathlib.Core.Bool.{or_assoc, or-false}
+use Rattle.carrier.specs.declared.Carrier.{Ghosts}
 use Rattle.carrier.specs.Pulls.{Adds}
-use Rattle.receiver.specs.declared.standings.Standing.{Standing}
+use Rattle.receiver.specs.declared.receiving.Receiver.{Receiver}
+use Rattle.receiver.specs.Views.{View, Usage, Moved, unused, view, view_of, moved}
 use Rattle.calls.specs.declared.replies.Call.{Call}
 use Rattle.calls.specs.declared.replies.Reply.{Reply}
-use Rattle.calls.specs.Calling.{CallsRun, Called, Makes, RunsAs, called, calls_run, one_more, and_then}
+use Rattle.calls.specs.Calling.{CallsRun, Called, together, called, calls_run, one_more}
 
-or_assoc : (a b c : Bool) → ((a || b) || c) ≡ (a || (b || c))
-or_assoc true b c = refl
-or_assoc false b c = refl
-
-or-false : (a : Bool) → (a || false) ≡ a
-or-false true = refl
-or-false false = refl
-
-abbrev ran : List Reply → Standing → List ℕ → ℕ → Bool → CallsRun
-ran rs s w u told = record { replies = rs; standing = s; buffer = w; used_bytes = u; told = told }
+-- replies and what was used so far, and then a run
+abbrev pub and_then : List Reply → Usage → CallsRun → CallsRun
+and_then rs u rest = record { replies = rs ++ rest.replies; standing = rest.standing; buffer = rest.buffer; usage = together u rest.usage }
 
 -- before the first call
-pub first_call : (rs : List Reply) (run : CallsRun) → rs ≡ [] → and_then rs 0 false run ≡ run
-first_call rs run none =
-    ap (λ x. ran (x ++ run.replies) run.standing run.buffer (0 + run.used_bytes) run.told) none
-    ∙ ap (λ n. ran run.replies run.standing run.buffer n run.told) (zero-add run.used_bytes)
+pub first_call : (rs : List Reply) (run : CallsRun) → rs ≡ [] → and_then rs unused run ≡ run
+first_call rs run none = rw (none, zero-add) refl
 
-regroup : (rs : List Reply) (u : ℕ) (told : Bool) (c : Called) (rest : CallsRun) → and_then (rs ++ (c.replied ∷ [])) (u + c.used_bytes) (told || c.told) rest ≡ and_then rs u told (one_more c rest)
-regroup rs u told c rest =
-    ap (λ x. ran x rest.standing rest.buffer ((u + c.used_bytes) + rest.used_bytes) ((told || c.told) || rest.told)) (append_assoc rs (c.replied ∷ []) rest.replies)
-    ∙ ap (λ x. ran (rs ++ (c.replied ∷ rest.replies)) rest.standing rest.buffer x ((told || c.told) || rest.told)) (add_assoc u c.used_bytes rest.used_bytes)
-    ∙ ap (λ x. ran (rs ++ (c.replied ∷ rest.replies)) rest.standing rest.buffer (u + (c.used_bytes + rest.used_bytes)) x) (or_assoc told c.told rest.told)
+regroup : (rs : List Reply) (u : Usage) (c : Called) (rest : CallsRun) → and_then (rs ++ (c.replied ∷ [])) (together u c.usage) rest ≡ and_then rs u (one_more c rest)
+regroup rs u c rest = rw (append_assoc, add_assoc, or_assoc) refl
 
-module _ {S : Type 0} {coming : S → List ℕ} {ending : S → Ending} {lacks : S → ℕ → Bool → S → Type 0} (adds : Adds coming ending lacks) (c₀ : S) (total : CallsRun) where
-  -- c₀ gave u bytes and is now c; a call left d, the standing t and the work buffer x
-  pub next_call : (c d : S) (s t : Standing) (w x : List ℕ) (rs qs : List Reply) (u : ℕ) (told : Bool) (one : Call) (more : List Call) (r : Reply)
-      → lacks c₀ u told c
-      → Makes (called s (coming c) (ending c) w one) r t x
-      → lacks c (called s (coming c) (ending c) w one).used_bytes (called s (coming c) (ending c) w one).told d
-      → qs ≡ rs ++ (r ∷ [])
-      → and_then rs u told (calls_run s (coming c) (ending c) w (one ∷ more)) ≡ total
-      → (v : ℕ) × (so : Bool) × lacks c₀ v so d × (and_then qs v so (calls_run t (coming d) (ending d) x more) ≡ total)
-  next_call c d s t w x rs qs u told one more r gave makes gives pushed is =
-      let did = called s (coming c) (ending c) w one in (
-        u + did.used_bytes,
-        told || did.told,
-        adds.joined c₀ c d u did.used_bytes told did.told gave gives,
-        ap (λ y. and_then y (u + did.used_bytes) (told || did.told) (calls_run t (coming d) (ending d) x more)) (pushed ∙ ap (λ y. rs ++ (y ∷ [])) makes.replied)
-            ∙ ap (λ y. and_then (rs ++ (did.replied ∷ [])) (u + did.used_bytes) (told || did.told) (calls_run y (coming d) (ending d) x more)) makes.standing
-            ∙ ap (λ y. and_then (rs ++ (did.replied ∷ [])) (u + did.used_bytes) (told || did.told) (calls_run did.standing y (ending d) x more)) (adds.spends c d _ _ gives).1
-            ∙ ap (λ y. and_then (rs ++ (did.replied ∷ [])) (u + did.used_bytes) (told || did.told) (calls_run did.standing (drop did.used_bytes (coming c)) y x more)) (adds.ends c d _ _ gives)
-            ∙ ap (λ y. and_then (rs ++ (did.replied ∷ [])) (u + did.used_bytes) (told || did.told) (calls_run did.standing (drop did.used_bytes (coming c)) (ending c) y more)) makes.buffer
-            ∙ regroup rs u told did (calls_run did.standing (drop did.used_bytes (coming c)) (ending c) did.buffer more)
-            ∙ is,
-      )
+module _ {C : Type 0} (m : Ghosts C) (adds : Adds m.coming m.ending m.lacks) (r₀ : Receiver C) (total : CallsRun) where
+  -- r is the receiver r₀, whose carrier gave what u says; a call replied a, and left the receiver t and the work buffer x
+  pub next_call : (r t : Receiver C) (w x : List ℕ) (rs qs : List Reply) (u : Usage) (one : Call) (more : List Call) (a : Reply)
+      → Moved m r₀ r.standing u r
+      → a ≡ (called (view m r) w one).replied
+      → x ≡ (called (view m r) w one).buffer
+      → Moved m r (called (view m r) w one).standing (called (view m r) w one).usage t
+      → qs ≡ rs ++ (a ∷ [])
+      → and_then rs u (calls_run (view m r) w (one ∷ more)) ≡ total
+      → (v : Usage) × Moved m r₀ t.standing v t × (and_then qs v (calls_run (view m t) x more) ≡ total)
+  next_call r t w x rs qs u one more a gave replied buffer to pushed is = (
+    together u did.usage,
+    record { standing = refl; number = to.number ∙ gave.number; lacks = adds.joined r₀.carrier r.carrier t.carrier u.bytes did.usage.bytes u.told did.usage.told gave.lacks to.lacks },
+    rw (pushed, replied, buffer, moves) (regroup rs u did (calls_run next did.buffer more) ∙ is),
+  )
+    where
+      did : Called
+      did = called (view m r) w one
+
+      next : View
+      next = moved (view m r) did.standing did.usage.bytes
+
+      moves : view m t ≡ next
+      moves =
+          let standing = to.standing in
+          let coming = (adds.spends r.carrier t.carrier _ _ to.lacks).1 in
+          let ending = adds.ends r.carrier t.carrier _ _ to.lacks in (λ y. view_of (standing y) (coming y) (ending y))
 
   -- behind the last call
-  pub last_call : (c : S) (s : Standing) (w : List ℕ) (rs : List Reply) (u : ℕ) (told : Bool) → lacks c₀ u told c → and_then rs u told (calls_run s (coming c) (ending c) w []) ≡ total → RunsAs total rs s w × lacks c₀ total.used_bytes total.told c
-  last_call c s w rs u told gave is =
-      let ends : ran rs s w u told ≡ total =
-      ap (λ x. ran x s w u told) (sym (append-nil rs)) ∙ ap (λ n. ran (rs ++ []) s w n told) (omega arith) ∙ ap (λ b. ran (rs ++ []) s w (u + 0) b) (sym (or-false told)) ∙ is in (
-        record { replies = ap (λ y. y.replies) ends; standing = ap (λ y. y.standing) ends; buffer = ap (λ y. y.buffer) ends },
-        subst (λ y. lacks c₀ y.used_bytes y.told c) ends gave,
-      )
+  pub last_call : (r : Receiver C) (w : List ℕ) (rs : List Reply) (u : Usage)
+      → Moved m r₀ r.standing u r
+      → and_then rs u (calls_run (view m r) w []) ≡ total
+      → (rs ≡ total.replies) × (w ≡ total.buffer) × Moved m r₀ total.standing total.usage r
+  last_call r w rs u gave is =
+      let ends = rw (append-nil, add-zero, or-false) at is in
+      (ap (λ y. y.replies) ends, ap (λ y. y.buffer) ends, rw (← ends) gave)

@@ -4,5 +4,5 @@
 mod making;
 mod replies;
 
-pub use making::{Outcome, Ran, run_alike};
+pub use making::{NoMemory, Ran, Script, run_alike};
 pub use replies::{Call, Reply};
