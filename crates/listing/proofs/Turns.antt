@@ -1,39 +1,39 @@
 -- One line more of a listing.
-use Rattle.std.proofs.Common.{◌≡◌, ℕ, ◌<◌, ◌≤◌, Bool, List, ◌++◌, length, drop, Ok, Result, sym, ap, ◌∙◌, arith, length-drop}
+use Rattle.std.proofs.Common.{◌≡◌, ℕ, ◌<◌, ◌≤◌, List, ◌++◌, length, drop, Ok, Result, sym, refl, ap, ◌∙◌}
 use Rattle.std.specs.List.{flat_map}
-use Rattle.carrier.specs.declared.Ending.{Ending}
+use Rattle.carrier.specs.declared.Carrier.{Ghosts}
 use Rattle.carrier.specs.Pulls.{Adds}
 use Rattle.packet.specs.declared.grammar.Event.{Event}
 use Rattle.receiver.specs.declared.answers.Answer.{Answer}
 use Rattle.receiver.specs.declared.answers.Answer.TheVariants as answer
 use Rattle.receiver.specs.declared.answers.StepRefusal.{StepRefusal}
-use Rattle.receiver.specs.declared.standings.Standing.{Standing}
-use Rattle.receiver.specs.Draws.{used}
-use Rattle.receiver.specs.Steps.{work_length, steps, stepped, step_standing, step_used}
-use Rattle.receiver.proofs.Uses.{event_uses}
-use Rattle.runs.proofs.Stepping.{answers_next, step_answers, step_stands, step_uses}
+use Rattle.receiver.specs.declared.receiving.Receiver.{Receiver}
+use Rattle.receiver.specs.Draws.{used, laid_over}
+use Rattle.receiver.specs.Steps.{steps, stepped, step_standing, step_front, step_usage}
+use Rattle.receiver.specs.Views.{view_of, view, Moved}
+use Rattle.receiver.proofs.Granted as granted
+use Rattle.runs.proofs.Stepping.{answers_next}
 use Rattle.listing.specs.Lines.{line_of}
 use Rattle.listing.specs.Listings.{lines_from}
 
--- a receiver that stood at s over the carrier c answered a, and now stands at t over d
-module _ {S : Type 0} {coming : S → List ℕ} {ending : S → Ending} {lacks : S → ℕ → Bool → S → Type 0} (adds : Adds coming ending lacks) (c d : S) (s t : Standing) (room : ℕ) (long : work_length ≤ room) (a : Answer) (answered : ◌≡◌ {A = Result Answer StepRefusal} (Ok a) (stepped s room (coming c) (ending c))) (stands : t ≡ step_standing s room (coming c) (ending c)) (told : Bool) (lack : lacks c (step_used s room (coming c)) told d) where
-  is : (steps s (coming c) (ending c)).answer ≡ a
-  is = step_answers s room (coming c) (ending c) long a answered
+-- a Step of the receiver r with a long enough work buffer w told the event ev, and left the receiver t
+module _ {C : Type 0} {m : Ghosts C} (adds : Adds m.coming m.ending m.lacks) {r t : Receiver C} (w : List ℕ) {a : Answer} {ev : Event}
+    (long : 65535 ≤ length w)
+    (told : ◌≡◌ {A = Result Answer StepRefusal} (Ok a) (stepped (view m r) (length w)))
+    (moved : Moved m r (step_standing (view m r) (length w)) (step_usage (view m r) (length w)) t)
+    (event : a ≡ answer.Event ev) where
+  to : granted.SteppedTo m r t w (laid_over (step_front (view m r) (length w)) w) a
+  to = record { long = long; told = record { answer = told; moved = moved; buffer = refl } }
 
-  module _ (ev : Event) (event : a ≡ answer.Event ev) where
-    left : coming d ≡ drop (used (coming c)) (coming c)
-    left = (adds.spends c d _ told lack).1 ∙ ap (λ n. drop n (coming c)) (step_uses s room (coming c) (ending c) long ev (is ∙ event))
+  pub fewer : length (m.coming t.carrier) < length (m.coming r.carrier)
+  fewer = granted.fewer adds to event
 
-    pub fewer : length (coming d) < length (coming c)
-    fewer =
-        let u = event_uses s (coming c) (ending c) ev (is ∙ event) in
-        let l = ap length left ∙ length-drop (used (coming c)) (coming c) in
-        omega arith
-
-    pub next_lines : line_of a ++ lines_from t (coming d) (ending d) ≡ lines_from s (coming c) (ending c)
-    next_lines =
-        ap (λ x. line_of a ++ lines_from x (coming d) (ending d)) (stands ∙ step_stands s room (coming c) (ending c) long)
-        ∙ ap (λ l. line_of a ++ lines_from (steps s (coming c) (ending c)).standing l (ending d)) left
-        ∙ ap (λ e. line_of a ++ lines_from (steps s (coming c) (ending c)).standing (drop (used (coming c)) (coming c)) e) (adds.ends c d _ told lack)
-        ∙ ap (λ x. line_of x ++ lines_from (steps s (coming c) (ending c)).standing (drop (used (coming c)) (coming c)) (ending c)) event
-        ∙ sym (ap (flat_map line_of) (answers_next s (coming c) (ending c) (answer.Event ev) (is ∙ event)))
+  -- the line of that event, and those behind it
+  pub next_lines : line_of a ++ lines_from (view m t) ≡ lines_from (view m r)
+  next_lines =
+      let s = r.standing in
+      let bs = m.coming r.carrier in
+      let e = m.ending r.carrier in
+      ap (λ y. line_of a ++ lines_from y) (granted.behind adds to event)
+      ∙ ap (λ y. line_of y ++ lines_from (view_of (steps s bs e).standing (drop (used bs) bs) e)) event
+      ∙ sym (ap (flat_map line_of) (answers_next s bs e (answer.Event ev) (granted.answers adds to ∙ event)))

@@ -1,7 +1,7 @@
 -- Whole listings by example.
 use Rattle.std.specs.Prelude.{◌≡◌, ℕ, List, [], ◌∷◌, ◌++◌, take, None, codes}
 use Prim.Native.String.{String}
-use Rattle.carrier.specs.declared.Ending.TheVariants.{Clean}
+use Rattle.carrier.specs.declared.endings.Ending.TheVariants.{Clean}
 use Rattle.packet.specs.declared.grammar.BodyKind.{BodyKind}
 use Rattle.packet.specs.declared.grammar.BodyKind.TheVariants as body
 use Rattle.listing.specs.Listings.{lines, listed}

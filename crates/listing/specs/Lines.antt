@@ -1,15 +1,16 @@
 -- The lines of a listing, as lists of bytes.
-use Rattle.std.specs.Prelude.{ℕ, List, [], ◌∷◌, ◌++◌, Some, None, codes, decimal, Option}
+use Rattle.std.specs.Prelude.{ℕ, List, [], ◌∷◌, ◌++◌, codes, decimal}
 use Rattle.capture.specs.declared.sections.CaptureRefusal.{CaptureRefusal}
-use Rattle.capture.specs.declared.sections.CaptureRefusal.TheVariants as refusal
-use Rattle.carrier.specs.declared.Fault.{Fault}
+use Rattle.capture.specs.Captures.{refusal_number}
 use Rattle.packet.specs.declared.grammar.Event.{Event}
 use Rattle.packet.specs.declared.grammar.Letter.{Letter}
 use Rattle.packet.specs.declared.grammar.Letter.TheVariants as letter
-use Rattle.packet.specs.Judging.{fault_number}
 use Rattle.receiver.specs.declared.answers.Answer.{Answer}
 use Rattle.receiver.specs.declared.answers.Answer.TheVariants as answer
 use Rattle.receiver.specs.declared.answers.Failure.{Failure}
+use Rattle.receiver.specs.declared.answers.StepFault.{StepFault}
+use Rattle.receiver.specs.declared.answers.StepFault.TheVariants as fault
+use Rattle.receiver.specs.Steps.{step_fault_number}
 
 -- the fields of a line, one space between two, and a line feed behind the last
 abbrev pub row : List ℕ → List (List ℕ) → List ℕ
@@ -26,13 +27,6 @@ letter_text letter.Metadata = codes "M"
 letter_text letter.PacketPair = codes "P"
 letter_text letter.Stale = codes "S"
 
--- why a capture is refused, by its number
-abbrev pub refusal_number : CaptureRefusal → ℕ
-refusal_number refusal.TooManyPieces = 61
-refusal_number refusal.CutShort = 62
-refusal_number refusal.PiecesDisagree = 63
-refusal_number refusal.BadEnding = 64
-
 -- the letter, place, entry, LocationId, Incarnation, payload length and Reason
 abbrev pub event_line_of : Event → List ℕ
 event_line_of e =
@@ -46,14 +40,15 @@ event_line_of e =
     ∷ [])
 
 -- the carrier's cause, place and depth, where it broke
-abbrev pub carrier_fields : Option Fault → List (List ℕ)
-carrier_fields None = []
-carrier_fields (Some f) = decimal f.cause ∷ decimal f.place ∷ decimal f.depth ∷ []
+abbrev pub carrier_fields : StepFault → List (List ℕ)
+carrier_fields (fault.Packet f) = []
+carrier_fields fault.EndsEarly = []
+carrier_fields (fault.CarrierBroke f) = decimal f.cause ∷ decimal f.place ∷ decimal f.depth ∷ []
 
 -- the fault's number and place, and what the carrier tells
 abbrev pub failure_line_of : Failure → List ℕ
 failure_line_of f =
-    row (codes "!") (decimal (fault_number f.fault) ∷ decimal f.place ∷ carrier_fields f.carrier)
+    row (codes "!") (decimal (step_fault_number f.fault) ∷ decimal f.place ∷ carrier_fields f.fault)
 
 -- the line for what a receiver answers; a clean end has its place
 abbrev pub line_of : Answer → List ℕ

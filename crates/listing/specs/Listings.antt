@@ -4,21 +4,21 @@ use Rattle.std.specs.List.{flat_map}
 use Rattle.capture.specs.Captures.{captured}
 use Rattle.capture.specs.declared.sections.CaptureRefusal.{CaptureRefusal}
 use Rattle.capture.specs.declared.sections.CaptureRefusal.TheVariants as refusal
-use Rattle.carrier.specs.declared.Ending.{Ending}
+use Rattle.carrier.specs.declared.endings.Ending.{Ending}
 use Rattle.packet.specs.declared.grammar.BodyKind.{BodyKind}
 use Rattle.packet.specs.declared.grammar.BodyKind.TheVariants as body
-use Rattle.receiver.specs.declared.standings.Standing.{Standing}
 use Rattle.receiver.specs.Steps.{opened}
+use Rattle.receiver.specs.Views.{View, view_of}
 use Rattle.runs.specs.Answers.{answers_from}
 use Rattle.listing.specs.Lines.{line_of, refused_line_of}
 
--- the lines of the answers to come, where a receiver stands, with the bytes to come and their ending
-abbrev pub lines_from : Standing → List ℕ → Ending → List ℕ
-lines_from s bs e = flat_map line_of (answers_from s bs e)
+-- the lines of the answers to come, by a receiver's view
+abbrev pub lines_from : View → List ℕ
+lines_from v = flat_map line_of (answers_from v.standing v.coming v.ending)
 
 -- the lines of a body of a kind
 abbrev pub lines : BodyKind → Option ℕ → List ℕ → Ending → List ℕ
-lines b before bs e = lines_from (opened b before) bs e
+lines b before bs e = lines_from (view_of (opened b before) bs e)
 
 -- the longest input that is read as a capture
 abbrev pub most_input : ℕ

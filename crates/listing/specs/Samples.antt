@@ -1,12 +1,14 @@
 -- Lines of a listing by example.
-use Rattle.std.specs.Prelude.{◌≡◌, ℕ, List, [], ◌∷◌, Some, None, codes}
+use Rattle.std.specs.Prelude.{◌≡◌, ℕ, List, [], ◌∷◌, codes}
 use Prim.Native.String.{String}
+use Rattle.carrier.specs.Passing.{found}
 use Rattle.packet.specs.declared.grammar.Letter.{Letter}
 use Rattle.packet.specs.declared.grammar.Letter.TheVariants as letter
-use Rattle.packet.specs.declared.grammar.StepFault.TheVariants as fault
 use Rattle.packet.specs.declared.wire.Fields.{Fields}
 use Rattle.receiver.specs.declared.answers.Answer.{Answer}
 use Rattle.receiver.specs.declared.answers.Answer.TheVariants as answer
+use Rattle.receiver.specs.declared.answers.StepFault.TheVariants as fault
+use Rattle.receiver.specs.Steps.{failure}
 use Rattle.listing.specs.Lines.{line_of}
 
 -- LocationId, Incarnation, AFFlags, PacketSize and Reason
@@ -28,8 +30,8 @@ samples =
     ∷ (sample_event letter.Stale 27 1 (sample_fields 8 4 1 8 0) 0, "S 27 1 8 4 0 0\n")
     ∷ (sample_event letter.EndOfStream 39 1 (sample_fields 0 0 0 0 0) 0, "E 39 1 0 0 0 0\n")
     ∷ (answer.End 47, ". 47\n")
-    ∷ (answer.Failed (record { fault = fault.EndsEarly; place = 39; carrier = None }), "! 28 39\n")
-    ∷ (answer.Failed (record { fault = fault.CarrierBroke; place = 12; carrier = Some (record { cause = 7; place = 12; depth = 0 }) }), "! 29 12 7 12 0\n")
+    ∷ (answer.Failed (failure fault.EndsEarly 39), "! 28 39\n")
+    ∷ (answer.Failed (failure (fault.CarrierBroke (found 7 12)) 12), "! 29 12 7 12 0\n")
     ∷ []
 
 -- each has that line

@@ -4,5 +4,5 @@
 mod lines;
 mod listings;
 
-pub use lines::{line, refused_line};
+pub use lines::{AnswerLine, RefusalLine, line, refused_line};
 pub use listings::{list_body, list_capture};

@@ -1,30 +1,20 @@
 // The listing of a whole body: a line for each answer, through the end or the fault.
-ghost use Rattle.std.specs.Prelude.{◌≡◌, ◌≤◌, ◌++◌, length, is_ok, IfOk, if◌then◌else◌, string_bytes};
-ghost use Rattle.listing.specs.Lines.{line_of};
+ghost use Rattle.std.specs.Prelude.{◌≡◌, ◌≤◌, length, IfOk, string_bytes};
+ghost use Rattle.receiver.specs.Views.{view};
 ghost use Rattle.listing.specs.Listings.{lines_from, lines, listed};
 ghost use Rattle.listing.specs.Examples.{ExampleListings};
 ghost use Rattle.runs.specs.Laws.{EndsCleanExactlyForBodies, FaultsExactlyWhereNoBodyGoesOn, LimitExactlyAtThe256thHeader};
 
-use super::lines::{line, refused_line};
+use super::lines::{AnswerLine, refused_line};
 use capture::{Capture, CaptureRefusal};
 use carrier::Carrier;
 use packet::BodyKind;
-use receiver::{Answer, Closed, Receiver, close, open};
+use receiver::{Answer, Receiver, WORK_LENGTH, close, open};
 use std::alloc::{AllocError, Global};
+use std::fmt::Write;
 
 // The longest input that is read as a capture.
 const MOST_INPUT: usize = 65_536;
-
-// The work buffer of a receiver.
-const WORK_LENGTH: usize = 65_535;
-
-// Adds the line of an answer.
-fn add_line(heap: Global, text: &mut String, answer: Answer) -> Result<(), AllocError>
-    ensures { string_bytes text.new ≡ (if is_ok result then string_bytes text.old ++ line_of answer else string_bytes text.old) }
-{
-    let more = line(heap, answer)?;
-    text.push_str(more.as_str())
-}
 
 // The lines of the answers to come.
 fn list_answers<C: Carrier>(
@@ -33,15 +23,14 @@ fn list_answers<C: Carrier>(
     work: &mut [u8],
 ) -> Result<String, AllocError>
     requires { 65535 ≤ length work.old }
-    ensures { IfOk result (λ t. string_bytes t ≡ lines_from receiver.old.standing (C.Carrier.coming receiver.old.carrier) (C.Carrier.ending receiver.old.carrier)) }
+    ensures { IfOk result (λ t. string_bytes t ≡ lines_from (view C.Carrier receiver.old)) }
 {
     let mut text = String::new(heap);
     while let Ok(answer) = receiver.step(work) {
-        add_line(heap, &mut text, answer)?;
-        match answer {
-            Answer::Event(_) => {}
-            Answer::End(_) | Answer::Failed(_) => break,
-        }
+        write!(text, "{}", AnswerLine(answer))?;
+        let Answer::Event(_) = answer else {
+            break;
+        };
     }
     Ok(text)
 }
@@ -58,10 +47,8 @@ pub fn list_body<C: Carrier + Drop>(
     let mut work = vec![in heap; 0u8; WORK_LENGTH]?;
     let (mut receiver, ticket) = open(carrier, body, 0, before);
     let text = list_answers(heap, &mut receiver, &mut work);
-    let Closed {
-        carrier: _,
-        reusable: _,
-    } = close(receiver, ticket);
+    // closed before an error is passed on
+    close(receiver, ticket);
     text
 }
 
@@ -72,10 +59,9 @@ fn capture_text(heap: Global, input: &[u8]) -> Result<String, AllocError>
     if input.len() > MOST_INPUT {
         return refused_line(heap, CaptureRefusal::CutShort);
     }
-    let mut capture = Capture::new();
-    match capture.check(input) {
+    match Capture::try_from(input) {
+        Ok(capture) => list_body(heap, capture, BodyKind::Play, None),
         Err(refusal) => refused_line(heap, refusal),
-        Ok(()) => list_body(heap, capture, BodyKind::Play, None),
     }
 }
 
