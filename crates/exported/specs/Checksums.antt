@@ -1,14 +1,15 @@
 -- The checksum of what a receiver answers.
-use Rattle.std.specs.Prelude.{ℕ, ◌+◌, ◌-◌, ◌*◌, ◌/◌, ◌%◌, ◌^◌, cond, List, length, take, Some, None, Option, ◌==◌, slice_index}
-use Rattle.carrier.specs.declared.Fault.{Fault}
+use Rattle.std.specs.Prelude.{ℕ, ◌+◌, ◌-◌, ◌*◌, ◌/◌, ◌%◌, ◌^◌, cond, List, length, take, ◌==◌, slice_index}
 use Rattle.packet.specs.declared.wire.Fields.{Fields}
 use Rattle.packet.specs.declared.grammar.Event.{Event}
 use Rattle.packet.specs.declared.grammar.Letter.{Letter}
 use Rattle.packet.specs.declared.grammar.Letter.TheVariants as letter
-use Rattle.packet.specs.Judging.{fault_number}
 use Rattle.receiver.specs.declared.answers.Answer.{Answer}
 use Rattle.receiver.specs.declared.answers.Answer.TheVariants as answer
 use Rattle.receiver.specs.declared.answers.Failure.{Failure}
+use Rattle.receiver.specs.declared.answers.StepFault.{StepFault}
+use Rattle.receiver.specs.declared.answers.StepFault.TheVariants as fault
+use Rattle.receiver.specs.Steps.{step_fault_number}
 
 -- a checksum with one more number, in 64 bits
 unfoldable pub mixed : ℕ → ℕ → ℕ
@@ -34,13 +35,14 @@ mixed_fields sum f = mixed (mixed (mixed (mixed (mixed sum f.location_id) f.inca
 abbrev pub mixed_event : ℕ → Event → ℕ
 mixed_event sum e = mixed (mixed_fields (mixed (mixed (mixed sum (letter_number e.letter)) e.place) e.entry) e.fields) e.payload_length
 
-abbrev mixed_carrier : ℕ → Option Fault → ℕ
-mixed_carrier sum None = sum
-mixed_carrier sum (Some f) = mixed (mixed (mixed sum f.cause) f.place) f.depth
+abbrev mixed_carrier : ℕ → StepFault → ℕ
+mixed_carrier sum (fault.Packet f) = sum
+mixed_carrier sum fault.EndsEarly = sum
+mixed_carrier sum (fault.CarrierBroke f) = mixed (mixed (mixed sum f.cause) f.place) f.depth
 
 -- with a fault, and the carrier's own where it broke
 abbrev pub mixed_failure : ℕ → Failure → ℕ
-mixed_failure sum f = mixed_carrier (mixed (mixed sum (fault_number f.fault)) f.place) f.carrier
+mixed_failure sum f = mixed_carrier (mixed (mixed sum (step_fault_number f.fault)) f.place) f.fault
 
 -- with an answer, which left the work buffer w
 abbrev pub mixed_answer : ℕ → Answer → List ℕ → ℕ

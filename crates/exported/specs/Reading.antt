@@ -1,12 +1,13 @@
 -- What reading a Play body to its end or fault comes to.
 use Rattle.std.specs.Prelude.{ℕ, zero, suc, Bool, true, false, cond, List, length, drop, None, nat_le}
-use Rattle.carrier.specs.declared.Ending.{Ending}
+use Rattle.carrier.specs.declared.endings.Ending.{Ending}
 use Rattle.packet.specs.declared.grammar.BodyKind.TheVariants as body
 use Rattle.receiver.specs.declared.answers.Answer.{Answer}
 use Rattle.receiver.specs.declared.answers.Answer.TheVariants as answer
 use Rattle.receiver.specs.declared.standings.Standing.{Standing}
 use Rattle.receiver.specs.Draws.{used, laid_over}
 use Rattle.receiver.specs.Steps.{steps, opened, ended, reading_front, work_length}
+use Rattle.receiver.specs.Views.{View, view_of}
 use Rattle.exported.specs.Checksums.{mixed, mixed_answer}
 
 -- the checksum, the work buffer, and where the receiver stands
@@ -35,11 +36,11 @@ reads zero s bs e w sum = one_step s bs e w sum
 reads (suc k) s bs e w sum = cond (goes_on (steps s bs e).answer) (reads k (steps s bs e).standing (drop (used bs) bs) e (laid_over (reading_front s.progress bs) w) (one_step s bs e w sum).sum) (one_step s bs e w sum)
 
 -- Each event uses at least four bytes, so that as many Steps as there are bytes come to the end or a fault behind the last.
-abbrev pub reads_from : Standing → List ℕ → Ending → List ℕ → ℕ → Read
-reads_from s bs e w sum = reads (length bs) s bs e w sum
+abbrev pub reads_from : View → List ℕ → ℕ → Read
+reads_from v w sum = reads (length v.coming) v.standing v.coming v.ending w sum
 
 abbrev play_read : List ℕ → Ending → List ℕ → Read
-play_read bs e w = reads_from (opened body.Play None) bs e w 1
+play_read bs e w = reads_from (view_of (opened body.Play None) bs e) w 1
 
 abbrev flag : Bool → ℕ
 flag b = cond b 1 0

@@ -5,104 +5,105 @@
 #![tactic(auto)]
 
 ghost use Rattle.std.specs.Prelude.{◌≡◌, ◌≤◌, length};
-ghost use Rattle.carrier.specs.declared.Ending.TheVariants.{Clean};
+ghost use Rattle.carrier.specs.declared.endings.Ending.TheVariants.{Clean};
 ghost use Rattle.chunks.specs.Decoding.{data_in, ending_in};
 ghost use Rattle.chunks.specs.Laws.{start};
-ghost use Rattle.exported.specs.Checksums.{mixed as sum_with, mixed_payload, mixed_fields, mixed_event, mixed_failure};
+ghost use Rattle.receiver.specs.Views.{view};
+ghost use Rattle.exported.specs.Checksums.{mixed, mixed_payload, mixed_fields, mixed_event, mixed_failure};
 ghost use Rattle.exported.specs.Reading.{reads_from, play_sum, play_buffer};
 
-use carrier::{Carrier, Fault, Image};
+use carrier::{Carrier, Image};
 use chunks::Chunks;
 use packet::{BodyKind, Event, Fields};
-use receiver::{Answer, Closed, Failure, Receiver, close, open};
+use receiver::{Answer, Failure, Receiver, StepFault, WORK_LENGTH, close, open};
 
-// The least length of a receiver's work buffer.
-const WORK_LENGTH: usize = 65_535;
+// What a checksum is multiplied by at each number: 2^64 over the golden ratio.
+const FACTOR: u64 = 0x9E37_79B9_7F4A_7C15;
 
-// The checksum with one more number.
-fn mixed(sum: u64, number: u64) -> u64
-    ensures { result ≡ sum_with sum number }
-{
-    sum.wrapping_mul(0x9E37_79B9_7F4A_7C15).wrapping_add(number)
-}
+// A checksum of the numbers that were told so far.
+#[derive(Clone, Copy)]
+struct Checksum(u64);
 
-// The checksum with three bytes of a payload: its first, middle and last.
-fn mixed_payload(sum: u64, payload: &[u8]) -> u64
-    ensures { result ≡ mixed_payload sum payload.now }
-{
-    let length = payload.len();
-    if length == 0 {
-        return sum;
+impl Checksum {
+    // With one more number.
+    #[tactic(auto, unfolding(crate::specs::Checksums::mixed))]
+    fn with(self, number: u64) -> Checksum
+        ensures { result.0 ≡ mixed self.0 number }
+    {
+        Checksum(self.0.wrapping_mul(FACTOR).wrapping_add(number))
     }
-    let first = mixed(sum, payload[0] as u64);
-    let middle = mixed(first, payload[length / 2] as u64);
-    mixed(middle, payload[length - 1] as u64)
-}
 
-// The checksum with the header fields.
-fn mixed_fields(sum: u64, fields: Fields) -> u64
-    ensures { result ≡ mixed_fields sum fields }
-{
-    let Fields {
-        location_id,
-        incarnation,
-        af_flags,
-        packet_size,
-        reason,
-    } = fields;
-    let sum = mixed(sum, location_id as u64);
-    let sum = mixed(sum, incarnation as u64);
-    let sum = mixed(sum, af_flags as u64);
-    let sum = mixed(sum, packet_size as u64);
-    mixed(sum, reason as u64)
-}
+    // With three bytes of a payload: its first, middle and last.
+    fn with_payload(self, payload: &[u8]) -> Checksum
+        ensures { result.0 ≡ mixed_payload self.0 payload.now }
+    {
+        let length = payload.len();
+        if length == 0 {
+            return self;
+        }
+        self.with(u64::from(payload[0]))
+            .with(u64::from(payload[length / 2]))
+            .with(u64::from(payload[length - 1]))
+    }
 
-// The checksum with all that is told of a packet.
-fn mixed_event(sum: u64, event: Event) -> u64
-    ensures { result ≡ mixed_event sum event }
-{
-    let sum = mixed(sum, event.letter as u64);
-    let sum = mixed(sum, event.place);
-    let sum = mixed(sum, event.entry as u64);
-    let sum = mixed_fields(sum, event.fields);
-    mixed(sum, event.payload_length as u64)
-}
+    // With the header fields.
+    fn with_fields(self, fields: Fields) -> Checksum
+        ensures { result.0 ≡ mixed_fields self.0 fields }
+    {
+        self.with(u64::from(fields.location_id))
+            .with(u64::from(fields.incarnation))
+            .with(u64::from(fields.af_flags))
+            .with(u64::from(fields.packet_size))
+            .with(u64::from(fields.reason))
+    }
 
-// The checksum with a fault, and the carrier's own where it broke.
-fn mixed_failure(sum: u64, failure: Failure) -> u64
-    ensures { result ≡ mixed_failure sum failure }
-{
-    let sum = mixed(sum, failure.fault as u64);
-    let sum = mixed(sum, failure.place);
-    match failure.carrier {
-        None => sum,
-        Some(
-            Fault {
-                cause,
-                place,
-                depth,
-            },
-        ) => mixed(mixed(mixed(sum, cause as u64), place), depth as u64),
+    // With all that is told of a packet.
+    fn with_event(self, event: Event) -> Checksum
+        ensures { result.0 ≡ mixed_event self.0 event }
+    {
+        // a letter counts by its place in the enum, and has no other number
+        self.with(event.letter as u64)
+            .with(event.place)
+            .with(u64::from(event.entry))
+            .with_fields(event.fields)
+            .with(u64::from(event.payload_length))
+    }
+
+    // With a fault, and the carrier's own where it broke.
+    fn with_failure(self, failure: Failure) -> Checksum
+        ensures { result.0 ≡ mixed_failure self.0 failure }
+    {
+        let Failure { fault, place } = failure;
+        let told = self.with(u64::from(u8::from(fault))).with(place);
+        match fault {
+            StepFault::Packet(_) | StepFault::EndsEarly => told,
+            StepFault::CarrierBroke(fault) => told
+                .with(u64::from(fault.cause))
+                .with(fault.place)
+                .with(u64::from(fault.depth)),
+        }
     }
 }
 
-// Steps to the end or the fault.
-fn receive_body<C: Carrier>(receiver: &mut Receiver<C>, work: &mut [u8]) -> u64
+// Steps to the end or the fault; no Step is refused, since the one caller has tested the work buffer's length.
+// Without that each clause would tell the case of a short buffer too. An array in place of the slice would be the front of
+// the caller's buffer alone, and the caller's clauses speak of all of it.
+fn receive_body<C: Carrier>(receiver: &mut Receiver<C>, work: &mut [u8]) -> Checksum
     requires { 65535 ≤ length work.old }
-    ensures sum { result ≡ (reads_from receiver.old.standing (C.Carrier.coming receiver.old.carrier) (C.Carrier.ending receiver.old.carrier) work.old 1).sum }
-    ensures buffer { work.new ≡ (reads_from receiver.old.standing (C.Carrier.coming receiver.old.carrier) (C.Carrier.ending receiver.old.carrier) work.old 1).buffer }
-    ensures standing { receiver.new.standing ≡ (reads_from receiver.old.standing (C.Carrier.coming receiver.old.carrier) (C.Carrier.ending receiver.old.carrier) work.old 1).standing }
+    ensures sum { result.0 ≡ (reads_from (view C.Carrier receiver.old) work.old 1).sum }
+    ensures buffer { work.new ≡ (reads_from (view C.Carrier receiver.old) work.old 1).buffer }
+    ensures standing { receiver.new.standing ≡ (reads_from (view C.Carrier receiver.old) work.old 1).standing }
     ensures number { receiver.new.number ≡ receiver.old.number }
 {
-    let mut sum = 1;
+    let mut sum = Checksum(1);
     while let Ok(answer) = receiver.step(work) {
         match answer {
             Answer::Event(event) => {
-                sum = mixed_event(sum, event);
-                sum = mixed_payload(sum, &work[0..event.payload_length as usize]);
+                let payload = &work[..usize::from(event.payload_length)];
+                sum = sum.with_event(event).with_payload(payload);
             }
-            Answer::End(place) => return mixed(sum, place),
-            Answer::Failed(failure) => return mixed_failure(sum, failure),
+            Answer::End(place) => return sum.with(place),
+            Answer::Failed(failure) => return sum.with_failure(failure),
         }
     }
     sum
@@ -118,11 +119,8 @@ fn receive_play_from<C: Carrier + Drop>(carrier: C, work: &mut [u8]) -> u64
     }
     let (mut receiver, ticket) = open(carrier, BodyKind::Play, 0, None);
     let sum = receive_body(&mut receiver, work);
-    let Closed {
-        carrier: _,
-        reusable,
-    } = close(receiver, ticket);
-    mixed(sum, reusable as u64)
+    let closed = close(receiver, ticket);
+    sum.with(u64::from(closed.reusable)).0
 }
 
 // Reads a Play body.

@@ -3,7 +3,7 @@
 #![tactic(auto)]
 
 ghost use Rattle.std.specs.Prelude.{◌≡◌};
-ghost use Rattle.carrier.specs.declared.Ending.TheVariants.{Clean};
+ghost use Rattle.carrier.specs.declared.endings.Ending.TheVariants.{Clean};
 ghost use Rattle.chunks.specs.Decoding.{data_in, ending_in};
 ghost use Rattle.chunks.specs.Laws.{start};
 ghost use Rattle.exported.specs.Reading.{play_sum, play_buffer};

@@ -1,37 +1,32 @@
-use Rattle.std.proofs.Common.{◌-◌, take, sym, ap, ◌∙◌, arith, rules}
-use Rattle.exported.specs.Checksums.{mixed_payload, mixed_event, mixed_answer}
-use Rattle.exported.specs.Reading.{goes_on}
-use Rattle.exported.proofs.Turns.{fewer, next_reads, last_read}
+use Rattle.std.proofs.Common.{◌≡◌, refl, ◌∙◌, arith}
+use Rattle.receiver.specs.declared.answers.Answer.TheVariants as answer
+use Rattle.receiver.proofs.Granted.{fewer}
+use Rattle.exported.specs.Checksums.{mixed_answer}
+use Rattle.exported.proofs.Turns.{granted, next_reads, last_read}
 use Rattle.exported.proofs.receive_body.Goals as goal
 
 pub loop-answer-smaller : goal.loop-answer-smaller
 loop-answer-smaller g c =
-    let m = g.C.Carrier in
-    let told = c.in-Ok.ensures in
-    let inv = c.loop-answer.invariant in
-    fewer m.adds c.loop-answer.receiver.carrier c.step.new.self.carrier c.loop-answer.receiver.standing c.step.new.self.standing c.loop-answer.work c.step.new.work c.loop-answer.sum (omega arith) c.in-Ok.answer told.answer told.standing told.buffer _ told.lacks c.in-Event.event c.in-Event.is
+    let to = granted g.C.Carrier c.loop-answer.receiver c.step.new.self c.loop-answer.work c.step.new.work c.in-Ok.answer (omega arith) c.in-Ok.ensures in
+    fewer g.met.C.Carrier.adds to c.in-Event.is
 
 pub loop-answer-preserved : goal.loop-answer-preserved
 loop-answer-preserved g c =
-    let m = g.C.Carrier in
-    let told = c.in-Ok.ensures in
     let inv = c.loop-answer.invariant in
-    let x = c.step.new.work in
-    let mixes = c.mixed_payload-sum.ensures ∙ ap (λ y. mixed_payload y (take (c.in-Event.event.payload_length - 0) x)) c.mixed_event-sum.ensures ∙ ap (λ n. mixed_payload (mixed_event c.loop-answer.sum c.in-Event.event) (take n x)) (omega arith) ∙ sym (ap (λ y. mixed_answer c.loop-answer.sum y x) c.in-Event.is) in
-    (search rules, told.number ∙ inv.1, next_reads m.adds c.loop-answer.receiver.carrier c.step.new.self.carrier c.loop-answer.receiver.standing c.step.new.self.standing c.loop-answer.work c.step.new.work c.loop-answer.sum (omega arith) c.in-Ok.answer told.answer told.standing told.buffer _ told.lacks c.in-Event.event c.in-Event.is _ mixes ∙ inv.2)
+    let to = granted g.C.Carrier c.loop-answer.receiver c.step.new.self c.loop-answer.work c.step.new.work c.in-Ok.answer (omega arith) c.in-Ok.ensures in
+    let mixes : c.with_payload-sum.result.0 ≡ mixed_answer c.loop-answer.sum.0 (answer.Event c.in-Event.event) c.step.new.work = cc in
+    record { number = to.told.moved.number ∙ inv.number; whole = next_reads g.met.C.Carrier.adds to c.in-Event.is c.loop-answer.sum.0 mixes ∙ inv.whole }
 
 pub returns-in-End : goal.returns-in-End
 returns-in-End g c =
-    let m = g.C.Carrier in
-    let told = c.in-Ok.ensures in
     let inv = c.loop-answer.invariant in
-    let end = last_read m.adds c.loop-answer.receiver.carrier c.step.new.self.carrier c.loop-answer.receiver.standing c.step.new.self.standing c.loop-answer.work c.step.new.work c.loop-answer.sum (omega arith) c.in-Ok.answer told.answer told.standing told.buffer _ told.lacks (ap goes_on c.in-End.is) _ (c.mixed.ensures ∙ sym (ap (λ y. mixed_answer c.loop-answer.sum y c.step.new.work) c.in-End.is)) _ inv.2 in
-    record { sum = end.0; buffer = end.1; standing = end.2; number = told.number ∙ inv.1 }
+    let to = granted g.C.Carrier c.loop-answer.receiver c.step.new.self c.loop-answer.work c.step.new.work c.in-Ok.answer (omega arith) c.in-Ok.ensures in
+    let end = last_read g.met.C.Carrier.adds to c.in-End.is refl c.loop-answer.sum.0 c.with.ensures inv.whole in
+    record { sum = end.sum; buffer = end.buffer; standing = end.standing; number = to.told.moved.number ∙ inv.number }
 
 pub returns-in-Failed : goal.returns-in-Failed
 returns-in-Failed g c =
-    let m = g.C.Carrier in
-    let told = c.in-Ok.ensures in
     let inv = c.loop-answer.invariant in
-    let end = last_read m.adds c.loop-answer.receiver.carrier c.step.new.self.carrier c.loop-answer.receiver.standing c.step.new.self.standing c.loop-answer.work c.step.new.work c.loop-answer.sum (omega arith) c.in-Ok.answer told.answer told.standing told.buffer _ told.lacks (ap goes_on c.in-Failed.is) _ (c.mixed_failure.ensures ∙ sym (ap (λ y. mixed_answer c.loop-answer.sum y c.step.new.work) c.in-Failed.is)) _ inv.2 in
-    record { sum = end.0; buffer = end.1; standing = end.2; number = told.number ∙ inv.1 }
+    let to = granted g.C.Carrier c.loop-answer.receiver c.step.new.self c.loop-answer.work c.step.new.work c.in-Ok.answer (omega arith) c.in-Ok.ensures in
+    let end = last_read g.met.C.Carrier.adds to c.in-Failed.is refl c.loop-answer.sum.0 c.with_failure.ensures inv.whole in
+    record { sum = end.sum; buffer = end.buffer; standing = end.standing; number = to.told.moved.number ∙ inv.number }

@@ -1,4 +1,5 @@
 use Rattle.std.proofs.Common.{◌≡◌, length}
+use Rattle.receiver.specs.Views.{view}
 use Rattle.exported.specs.Reading.{reads_from}
 use Rattle.exported.proofs.receive_body.Given as goal
 
@@ -6,10 +7,10 @@ use Rattle.exported.proofs.receive_body.Given as goal
 abbrev pub invariant-loop-answer : goal.invariant-loop-answer
 invariant-loop-answer g l =
     let m = g.C.Carrier in
-    (length l.work ≡ length l.initial.work)
-    × (l.receiver.number ≡ l.initial.receiver.number)
-    × (reads_from l.receiver.standing (m.coming l.receiver.carrier) (m.ending l.receiver.carrier) l.work l.sum
-    ≡ reads_from l.initial.receiver.standing (m.coming l.initial.receiver.carrier) (m.ending l.initial.receiver.carrier) l.initial.work 1)
+    record {
+      number : l.receiver.number ≡ l.initial.receiver.number;
+      whole : reads_from (view m l.receiver) l.work l.sum.0 ≡ reads_from (view m l.initial.receiver) l.initial.work 1;
+    }
 
 -- Each event takes bytes from the carrier.
 abbrev pub decreases-loop-answer : goal.decreases-loop-answer
