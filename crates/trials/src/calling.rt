@@ -1,55 +1,47 @@
 // The answers to single calls of a receiver, one line each.
-use super::cases::Case;
-use anyhow::anyhow;
+use super::running::Trial;
+use anyhow::bail;
 use carrier::{Carrier, Image};
 use listing::line;
 use packet::BodyKind;
-use receiver::{Closed, Receiver, close, open};
-use std::alloc::Global;
-
-const WORK_LENGTH: usize = 65_535;
+use receiver::{Passed, Receiver, Ticket, WORK_LENGTH, close, open};
+use std::alloc::{AllocError, Global};
 
 // How many bytes of the work buffer are shown.
 const SHOWN: usize = 6;
 
-fn step_line<C: Carrier>(
+// The line for what a call gave, or for the number of its refusal.
+pub fn outcome_line<T, E: Into<u8>, F: FnOnce(T) -> Result<String, AllocError>>(
     heap: Global,
-    receiver: &mut Receiver<C>,
-    work: &mut [u8],
-) -> anyhow::Result<String> {
-    match receiver.step(work) {
-        Ok(answer) => Ok(line(heap, answer)?),
+    outcome: Result<T, E>,
+    line_of: F,
+) -> Result<String, AllocError>
+    requires { F.IsAlwaysCallable line_of }
+{
+    match outcome {
+        Ok(value) => line_of(value),
         Err(refusal) => {
-            let number = refusal as u8;
-            Ok(format!(in heap; "? {number}\n")?)
+            let number: u8 = refusal.into();
+            format!(in heap; "? {number}\n")
         }
     }
 }
 
 // How many data packets were passed over, delivered and stale, and the answer behind them.
-fn pass_line<C: Carrier>(
-    heap: Global,
-    receiver: &mut Receiver<C>,
-    work: &mut [u8],
-) -> anyhow::Result<String> {
-    match receiver.pass(work) {
-        Ok(passed) => {
-            let delivered = passed.delivered;
-            let stale = passed.stale;
-            let answer = line(heap, passed.answer)?;
-            Ok(format!(in heap; "{delivered} D {stale} S {answer}")?)
-        }
-        Err(refusal) => {
-            let number = refusal as u8;
-            Ok(format!(in heap; "? {number}\n")?)
-        }
-    }
+fn passed_line(heap: Global, passed: Passed) -> Result<String, AllocError> {
+    let Passed {
+        answer,
+        delivered,
+        stale,
+    } = passed;
+    let answer = line(heap, answer)?;
+    format!(in heap; "{delivered} D {stale} S {answer}")
 }
 
 // The first bytes of the work buffer.
-fn work_line(heap: Global, work: &[u8]) -> anyhow::Result<String> {
-    let front: Vec<u8> = work.iter().take(SHOWN).copied().collect(heap)?;
-    Ok(format!(in heap; "work {front:?}\n")?)
+fn work_line(heap: Global, work: &[u8]) -> Result<String, AllocError> {
+    let front = &work[..SHOWN.min(work.len())];
+    format!(in heap; "work {front:?}\n")
 }
 
 // The lines of all the calls.
@@ -58,68 +50,63 @@ fn call_lines<C: Carrier>(
     receiver: &mut Receiver<C>,
     calls: &str,
 ) -> anyhow::Result<String> {
-    let mut work = vec![in heap; 0u8; WORK_LENGTH]?;
-    let mut short = vec![in heap; 0u8; WORK_LENGTH - 1]?;
+    let mut work = vec![in heap; 0; WORK_LENGTH]?;
+    let mut short = vec![in heap; 0; WORK_LENGTH - 1]?;
     let mut text = String::new(heap);
-    for call in calls.bytes() {
+    let step_line = |outcome| outcome_line(heap, outcome, |answer| line(heap, answer));
+    let pass_line = |outcome| outcome_line(heap, outcome, |passed| passed_line(heap, passed));
+    for call in calls.chars() {
+        // read and made in one: an enum of the calls would only name each of them twice
         let more = match call {
-            b's' => step_line(heap, receiver, &mut work)?,
-            b'S' => step_line(heap, receiver, &mut short)?,
-            b'p' => pass_line(heap, receiver, &mut work)?,
-            b'P' => pass_line(heap, receiver, &mut short)?,
-            b'w' => work_line(heap, &work)?,
-            _ => return Err(anyhow!("an unknown call")),
+            's' => step_line(receiver.step(&mut work))?,
+            'S' => step_line(receiver.step(&mut short))?,
+            'p' => pass_line(receiver.pass(&mut work))?,
+            'P' => pass_line(receiver.pass(&mut short))?,
+            'w' => work_line(heap, &work)?,
+            _ => bail!("an unknown call"),
         };
-        text.push_str(more.as_str())?;
+        text.push_str(&more)?;
     }
     Ok(text)
 }
 
-fn reusable_line(reusable: bool) -> &'static str {
-    if reusable {
+// Closes a body, and says whether its carrier may be read on.
+fn close_line<C: Carrier + Drop>(receiver: Receiver<C>, ticket: Ticket) -> &'static str {
+    if close(receiver, ticket).reusable {
         "reusable\n"
     } else {
         "not reusable\n"
     }
 }
 
-// Opens a body, makes the calls and closes it.
-pub fn answers_to<C: Carrier + Drop>(
-    heap: Global,
-    carrier: C,
-    case: &Case<'_>,
-) -> anyhow::Result<String> {
-    let (mut receiver, ticket) = open(carrier, case.body, 0, case.before);
-    let lines = call_lines(heap, &mut receiver, case.calls);
-    let Closed {
-        carrier: _,
-        reusable,
-    } = close(receiver, ticket);
-    let mut text = lines?;
-    text.push_str(reusable_line(reusable))?;
-    Ok(text)
+impl Trial<'_> {
+    // Opens the body, makes the calls and closes it.
+    pub fn answers<C: Carrier + Drop>(&self, carrier: C, calls: &str) -> anyhow::Result<String> {
+        let (mut receiver, ticket) = open(carrier, self.case.body, 0, self.case.before);
+        let lines = call_lines(self.heap, &mut receiver, calls);
+        let last = close_line(receiver, ticket);
+        let mut text = lines?;
+        text.push_str(last)?;
+        Ok(text)
+    }
 }
 
-// Reads two empty bodies with these numbers to their clean ends, and closes each with the ticket of the other.
+// An empty body with this number, read to its clean end.
+fn read_empty(number: u32, work: &mut [u8]) -> (Receiver<Image<'static>>, Ticket) {
+    let (mut receiver, ticket) = open(Image::new(&[]), BodyKind::PlayNext, number, None);
+    let _ = receiver.step(work);
+    (receiver, ticket)
+}
+
+// Reads two empty bodies with these numbers, and closes each with the ticket of the other.
 pub fn tickets_record(heap: Global, words: &str) -> anyhow::Result<String> {
     let (one, other) = words.split_once(' ').unwrap_or((words, words));
     let one = one.parse::<u32>()?;
     let other = other.parse::<u32>()?;
-    let mut work = vec![in heap; 0u8; WORK_LENGTH]?;
-    let mut text = String::new(heap);
-    let (mut first, first_ticket) = open(Image::new(&[]), BodyKind::PlayNext, one, None);
-    let (mut second, second_ticket) = open(Image::new(&[]), BodyKind::PlayNext, other, None);
-    let _ = first.step(&mut work);
-    let _ = second.step(&mut work);
-    let Closed {
-        carrier: _,
-        reusable: first_reusable,
-    } = close(first, second_ticket);
-    let Closed {
-        carrier: _,
-        reusable: second_reusable,
-    } = close(second, first_ticket);
-    text.push_str(reusable_line(first_reusable))?;
-    text.push_str(reusable_line(second_reusable))?;
-    Ok(text)
+    let mut work = vec![in heap; 0; WORK_LENGTH]?;
+    let (first, first_ticket) = read_empty(one, &mut work);
+    let (second, second_ticket) = read_empty(other, &mut work);
+    let first_line = close_line(first, second_ticket);
+    let second_line = close_line(second, first_ticket);
+    Ok(format!(in heap; "{first_line}{second_line}")?)
 }

@@ -42,12 +42,8 @@ fn print_records(rt: &HostRuntime, table: &str) -> anyhow::Result<()> {
     Ok(())
 }
 
-fn run(rt: &HostRuntime) -> anyhow::Result<()> {
-    let mut input = Vec::new(rt.alloc());
-    rt.stdin().take(LONGEST_TABLE).read_to_end(&mut input)?;
-    print_records(rt, std::str::from_utf8(&input)?)
-}
-
 fn main(rt: HostRuntime) -> anyhow::Result<()> {
-    run(&rt)
+    let mut table = String::new(rt.alloc());
+    rt.stdin().take(LONGEST_TABLE).read_to_string(&mut table)?;
+    print_records(&rt, &table)
 }

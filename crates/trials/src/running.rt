@@ -1,11 +1,10 @@
 // The record of a case: what comes of it from an image, and from captures cut into pieces.
-use super::cases::{Case, Wanted, case_in};
-use super::stacks::read_stack;
-use super::words::{Given, given_by, push_four};
+use super::cases::{Case, Ending, Wanted};
+use super::words::{Given, push_number};
 use anyhow::anyhow;
 use capture::Capture;
 use carrier::Image;
-use std::alloc::Global;
+use std::alloc::{AllocError, Global};
 
 // In which pieces a capture has its bytes.
 #[derive(Clone, Copy)]
@@ -18,111 +17,108 @@ enum Cut {
     Bytes,
 }
 
-// The lengths of the pieces.
-fn pieces(heap: Global, count: u32, cut: Cut) -> anyhow::Result<Vec<u32>> {
-    let mut pieces = Vec::new(heap);
-    match cut {
-        Cut::Whole if count > 0 => pieces.push(count)?,
-        Cut::Whole => {}
-        Cut::At(first) => {
-            pieces.push(first)?;
-            pieces.push(count.wrapping_sub(first))?;
-        }
-        Cut::Bytes => {
-            for _ in 0..count {
-                pieces.push(1)?;
-            }
-        }
+impl Cut {
+    // The lengths of the pieces of so many bytes.
+    fn pieces(self, heap: Global, count: u32) -> Result<Vec<u32>, AllocError> {
+        Ok(match self {
+            Cut::Whole if count == 0 => Vec::new(heap),
+            Cut::Whole => vec![in heap; count]?,
+            Cut::At(first) => vec![in heap; first, count.wrapping_sub(first)]?,
+            Cut::Bytes => vec![in heap; 1; count as usize]?,
+        })
     }
-    Ok(pieces)
 }
 
 // The capture of these bytes.
-fn recorded(heap: Global, bytes: &[u8], cut: Cut, broken: bool) -> anyhow::Result<Vec<u8>> {
+fn recorded(heap: Global, bytes: &[u8], cut: Cut, ending: Ending) -> anyhow::Result<Vec<u8>> {
     let count = u32::try_from(bytes.len())?;
-    let pieces = pieces(heap, count, cut)?;
+    let pieces = cut.pieces(heap, count)?;
     let mut record = Vec::new(heap);
-    push_four(&mut record, u32::try_from(pieces.len())?)?;
-    for piece in pieces.iter() {
-        push_four(&mut record, *piece)?;
+    push_number::<4>(&mut record, u32::try_from(pieces.len())?)?;
+    for piece in pieces {
+        push_number::<4>(&mut record, piece)?;
     }
-    push_four(&mut record, count)?;
+    push_number::<4>(&mut record, count)?;
     record.extend_from_slice(bytes)?;
-    push_four(&mut record, 1)?;
-    record.push(u8::from(broken))?;
+    push_number::<4>(&mut record, 1)?;
+    record.push(u8::from(ending))?;
     Ok(record)
 }
 
-// What comes of a case from a capture.
-fn from_capture(heap: Global, given: &Given, cut: Cut, case: &Case<'_>) -> anyhow::Result<String> {
-    let record = recorded(heap, &given.bytes, cut, case.broken)?;
-    let mut capture = Capture::new();
-    if capture.check(&record).is_err() {
-        return Err(anyhow!("no capture"));
-    }
-    read_stack(heap, capture, &given.loaded, case)
-}
-
-// What comes of a case from one piece: an image where the ending is clean.
-fn from_one_piece(heap: Global, given: &Given, case: &Case<'_>) -> anyhow::Result<String> {
-    if case.broken {
-        return from_capture(heap, given, Cut::Whole, case);
-    }
-    read_stack(heap, Image::new(&given.bytes), &given.loaded, case)
-}
-
-// Whether a cut gives the same text.
-fn agrees(
-    heap: Global,
-    given: &Given,
-    cut: Cut,
-    case: &Case<'_>,
-    text: &str,
-) -> anyhow::Result<bool> {
-    Ok(from_capture(heap, given, cut, case)?.as_str() == text)
-}
-
-// In how many of all cuts the text is another: whole, into two pieces, and byte by byte.
-fn disagreements(heap: Global, given: &Given, case: &Case<'_>, text: &str) -> anyhow::Result<u32> {
-    let mut others = 0u32;
-    for first in 1..u32::try_from(given.bytes.len())? {
-        if !agrees(heap, given, Cut::At(first), case, text)? {
-            others = others.saturating_add(1);
-        }
-    }
-    if !agrees(heap, given, Cut::Whole, case, text)? {
-        others = others.saturating_add(1);
-    }
-    if !agrees(heap, given, Cut::Bytes, case, text)? {
-        others = others.saturating_add(1);
-    }
-    Ok(others)
-}
-
-// The text, and a line that says whether all cuts give it.
-fn with_cuts(heap: Global, given: &Given, case: &Case<'_>, text: &str) -> anyhow::Result<String> {
-    let others = disagreements(heap, given, case, text)?;
-    if others == 0 {
-        return Ok(format!(in heap; "{text}= all cuts\n")?);
-    }
-    Ok(format!(in heap; "{text}= {others} cuts differ\n")?)
-}
-
 // How many lines a text has, and the last of them.
-fn tail_of(heap: Global, text: &str) -> anyhow::Result<String> {
+fn tail_of(heap: Global, text: &str) -> Result<String, AllocError> {
     let count = text.lines().count();
     let last = text.lines().last().unwrap_or("");
-    Ok(format!(in heap; "{count} lines, the last {last}\n")?)
+    format!(in heap; "{count} lines, the last {last}\n")
+}
+
+// A case, and what it is given.
+#[derive(Drop)]
+pub struct Trial<'a> {
+    pub heap: Global,
+    pub case: Case<'a>,
+    pub given: Given,
+}
+
+impl<'a> Trial<'a> {
+    // The trial that a line of the table writes.
+    fn new(heap: Global, text: &'a str) -> anyhow::Result<Trial<'a>> {
+        let case = Case::try_from(text)?;
+        let given = Given::from_words(heap, case.words)?;
+        Ok(Trial { heap, case, given })
+    }
+
+    // What comes of the case from a capture.
+    fn read_capture(&self, cut: Cut) -> anyhow::Result<String> {
+        let record = recorded(self.heap, &self.given.bytes, cut, self.case.ending)?;
+        let capture = Capture::try_from(record.as_slice()).map_err(|_| anyhow!("no capture"))?;
+        self.read_stack(capture)
+    }
+
+    // What comes of the case from one piece: an image where the ending is clean.
+    fn read_one_piece(&self) -> anyhow::Result<String> {
+        match self.case.ending {
+            Ending::Clean => self.read_stack(Image::new(&self.given.bytes)),
+            Ending::Broken => self.read_capture(Cut::Whole),
+        }
+    }
+
+    // Whether a cut gives another text.
+    fn differs(&self, cut: Cut, text: &str) -> anyhow::Result<bool> {
+        Ok(self.read_capture(cut)?.as_str() != text)
+    }
+
+    // How many of all cuts give another text: whole, into two pieces, and byte by byte.
+    fn disagreements(&self, text: &str) -> anyhow::Result<u32> {
+        let count = u32::try_from(self.given.bytes.len())?;
+        (1..count)
+            .map(Cut::At)
+            .chain([Cut::Whole, Cut::Bytes])
+            .try_fold(0u32, |others, cut| -> anyhow::Result<u32> {
+                Ok(others.saturating_add(u32::from(self.differs(cut, text)?)))
+            })
+    }
+
+    // The text, and a line that says whether all cuts give it.
+    fn with_cuts(&self, text: &str) -> anyhow::Result<String> {
+        Ok(match self.disagreements(text)? {
+            0 => format!(in self.heap; "{text}= all cuts\n")?,
+            others => format!(in self.heap; "{text}= {others} cuts differ\n")?,
+        })
+    }
+
+    // What is recorded of the case.
+    fn record(&self) -> anyhow::Result<String> {
+        let text = self.read_one_piece()?;
+        match self.case.wanted {
+            Wanted::Every => self.with_cuts(&text),
+            Wanted::Tail => Ok(tail_of(self.heap, &text)?),
+            Wanted::Once | Wanted::Calls(_) => Ok(text),
+        }
+    }
 }
 
 // The record of a case.
 pub fn record_of(heap: Global, text: &str) -> anyhow::Result<String> {
-    let case = case_in(text)?;
-    let given = given_by(heap, case.words)?;
-    let text = from_one_piece(heap, &given, &case)?;
-    match case.wanted {
-        Wanted::Every => with_cuts(heap, &given, &case, text.as_str()),
-        Wanted::Tail => tail_of(heap, text.as_str()),
-        Wanted::Once | Wanted::Calls => Ok(text),
-    }
+    Trial::new(heap, text)?.record()
 }

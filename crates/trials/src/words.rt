@@ -8,88 +8,131 @@
 // - `chunked.SIZE`: what stands before it, as a chunked body with chunks of that size;
 // - `cut.N`: the first so many of what stands before it;
 // - `loaded`: what stands before it is loaded into the leftover layer.
-use anyhow::anyhow;
 use std::alloc::{AllocError, Global};
+use std::io::Write;
+use std::iter::repeat_n;
+use std::num::ParseIntError;
+use std::str::FromStr;
+use thiserror::Error;
 
-// What a case is given.
-#[derive(Drop)]
-pub struct Given {
-    // what the leftover layer is loaded with
-    pub loaded: Vec<u8>,
-    // what the lowest carrier gives
-    pub bytes: Vec<u8>,
+// Why a text is no word.
+#[derive(Debug, Drop, Error)]
+pub enum WordError {
+    #[error("an unknown word")]
+    UnknownName,
+    #[error(transparent)]
+    BadNumber(#[from] ParseIntError),
 }
 
 // The numbers behind a word's name; those that are left out are 0.
-fn numbers_of(fields: &str) -> anyhow::Result<[u32; 4]> {
-    let mut numbers = [0u32; 4];
-    if fields.is_empty() {
-        return Ok(numbers);
+#[derive(Clone, Copy)]
+struct Numbers([u32; 4]);
+
+impl FromStr for Numbers {
+    type Err = ParseIntError;
+
+    fn from_str(fields: &str) -> Result<Numbers, ParseIntError> {
+        let mut numbers = [0; 4];
+        // `split` gives one empty field here
+        if fields.is_empty() {
+            return Ok(Numbers(numbers));
+        }
+        for (number, field) in numbers.iter_mut().zip(fields.split('.')) {
+            *number = field.parse::<u32>()?;
+        }
+        Ok(Numbers(numbers))
     }
-    for (number, field) in numbers.iter_mut().zip(fields.split('.')) {
-        *number = field.parse::<u32>()?;
+}
+
+// What a word says.
+#[derive(Clone, Copy)]
+enum Word<'a> {
+    // a packet by its letter, with LocationId, Incarnation, AFFlags and how long the payload is
+    Framed(u8, Numbers),
+    // a packet by its letter, with its Reason
+    Reason(u8, u32),
+    // a `$P` with so long a payload
+    Pair(u32),
+    Groups(u32),
+    Hex(&'a str),
+    Text(&'a str),
+    LineEnd,
+    Fill(u32, u8),
+    Chunked(u32),
+    Cut(u32),
+    Loaded,
+}
+
+impl<'a> TryFrom<&'a str> for Word<'a> {
+    type Error = WordError;
+
+    fn try_from(word: &'a str) -> Result<Word<'a>, WordError> {
+        let (name, fields) = word.split_once('.').unwrap_or((word, ""));
+        match name {
+            "x" => Ok(Word::Hex(fields)),
+            "t" => Ok(Word::Text(fields)),
+            "r" => Ok(Word::LineEnd),
+            "loaded" => Ok(Word::Loaded),
+            _ => numbered(name, fields.parse::<Numbers>()?),
+        }
     }
-    Ok(numbers)
 }
 
-// A number in two bytes, the low one first.
-fn push_two(bytes: &mut Vec<u8>, number: u32) -> Result<(), AllocError> {
-    let [low, high, _, _] = number.to_le_bytes();
-    bytes.push(low)?;
-    bytes.push(high)?;
-    Ok(())
+// The word of this name and these numbers.
+fn numbered<'a>(name: &str, numbers: Numbers) -> Result<Word<'a>, WordError> {
+    let Numbers([first, second, _, _]) = numbers;
+    match name {
+        "D" => Ok(Word::Framed(b'D', numbers)),
+        "H" => Ok(Word::Framed(b'H', numbers)),
+        "M" => Ok(Word::Framed(b'M', numbers)),
+        "C" => Ok(Word::Reason(b'C', first)),
+        "E" => Ok(Word::Reason(b'E', first)),
+        "P" => Ok(Word::Pair(first)),
+        "groups" => Ok(Word::Groups(first)),
+        "fill" => Ok(Word::Fill(first, low_byte(second))),
+        "chunked" => Ok(Word::Chunked(first)),
+        "cut" => Ok(Word::Cut(first)),
+        _ => Err(WordError::UnknownName),
+    }
 }
 
-// A number in four bytes, the low one first.
-pub fn push_four(bytes: &mut Vec<u8>, number: u32) -> Result<(), AllocError> {
-    bytes.extend_from_slice(&number.to_le_bytes())
-}
-
-// A number in one byte.
+// The lowest byte of a number.
 fn low_byte(number: u32) -> u8 {
-    let [low, _, _, _] = number.to_le_bytes();
-    low
+    (number & 0xff) as u8
 }
 
-// A byte so many times.
-pub fn push_fill(bytes: &mut Vec<u8>, count: u32, byte: u8) -> Result<(), AllocError> {
-    for _ in 0..count {
-        bytes.push(byte)?;
-    }
-    Ok(())
+// The lowest N bytes of a number, the low one first.
+pub fn push_number<const N: usize>(bytes: &mut Vec<u8>, number: u32) -> Result<(), AllocError> {
+    bytes.extend(number.to_le_bytes().iter().take(N).copied())
 }
 
 // Bytes that count up from behind a number, so that payloads can be told apart.
 fn push_payload(bytes: &mut Vec<u8>, number: u32, count: u32) -> Result<(), AllocError> {
-    for i in 0..count {
-        bytes.push(low_byte(number.wrapping_add(i).wrapping_add(1)))?;
-    }
-    Ok(())
+    bytes.extend((1..=count).map(|i| low_byte(number.wrapping_add(i))))
 }
 
 // The mark, the kind letter and PacketLength.
 fn push_head(bytes: &mut Vec<u8>, letter: u8, length: u32) -> Result<(), AllocError> {
-    bytes.push(b'$')?;
-    bytes.push(letter)?;
-    push_two(bytes, length)
+    bytes.extend_from_slice(&[b'$', letter])?;
+    push_number::<2>(bytes, length)
 }
 
-// A `$D`, `$H` or `$M`: LocationId, Incarnation, AFFlags, and how long the payload is.
-fn push_framed(bytes: &mut Vec<u8>, letter: u8, numbers: [u32; 4]) -> Result<(), AllocError> {
-    let [location, incarnation, flags, payload] = numbers;
+// A `$D`, `$H` or `$M`.
+fn push_framed(bytes: &mut Vec<u8>, letter: u8, numbers: Numbers) -> Result<(), AllocError> {
+    let Numbers([location, incarnation, flags, payload]) = numbers;
     let length = payload.wrapping_add(8);
     push_head(bytes, letter, length)?;
-    push_four(bytes, location)?;
-    bytes.push(low_byte(incarnation))?;
-    bytes.push(low_byte(flags))?;
-    push_two(bytes, length)?;
+    push_number::<4>(bytes, location)?;
+    push_number::<1>(bytes, incarnation)?;
+    push_number::<1>(bytes, flags)?;
+    push_number::<2>(bytes, length)?;
     push_payload(bytes, location, payload)
 }
 
 // A `$C` or `$E`.
 fn push_reason(bytes: &mut Vec<u8>, letter: u8, reason: u32) -> Result<(), AllocError> {
     push_head(bytes, letter, 4)?;
-    push_four(bytes, reason)
+    push_number::<4>(bytes, reason)
 }
 
 // A `$P`.
@@ -102,13 +145,13 @@ fn push_pair(bytes: &mut Vec<u8>, payload: u32) -> Result<(), AllocError> {
 fn push_groups(bytes: &mut Vec<u8>, count: u32) -> Result<(), AllocError> {
     for _ in 0..count {
         push_reason(bytes, b'C', 0)?;
-        push_framed(bytes, b'H', [0, 5, 12, 0])?;
+        push_framed(bytes, b'H', Numbers([0, 5, 12, 0]))?;
         push_reason(bytes, b'E', 1)?;
     }
     Ok(())
 }
 
-// Bytes in hexadecimal.
+// Bytes in hexadecimal. A loop and no `extend`, which would not stop where the digits are wrong.
 fn push_hex(bytes: &mut Vec<u8>, digits: &str) -> anyhow::Result<()> {
     for pair in digits.as_bytes().chunks(2) {
         let digits = std::str::from_utf8(pair)?;
@@ -118,12 +161,10 @@ fn push_hex(bytes: &mut Vec<u8>, digits: &str) -> anyhow::Result<()> {
 }
 
 // The bytes as a chunked body.
-fn chunked(heap: Global, body: &[u8], size: usize) -> Result<Vec<u8>, AllocError> {
+fn chunked(heap: Global, body: &[u8], size: usize) -> anyhow::Result<Vec<u8>> {
     let mut wrapped = Vec::new(heap);
     for data in body.chunks(size.max(1)) {
-        let length = data.len();
-        let size_line = format!(in heap; "{length:x}\r\n")?;
-        wrapped.extend_from_slice(size_line.as_bytes())?;
+        write!(wrapped, "{:x}\r\n", data.len())?;
         wrapped.extend_from_slice(data)?;
         wrapped.extend_from_slice(b"\r\n")?;
     }
@@ -131,54 +172,44 @@ fn chunked(heap: Global, body: &[u8], size: usize) -> Result<Vec<u8>, AllocError
     Ok(wrapped)
 }
 
-// Adds what a word with numbers says.
-fn push_numbered(
-    heap: Global,
-    given: &mut Given,
-    name: &str,
-    numbers: [u32; 4],
-) -> anyhow::Result<()> {
-    let [first, second, _, _] = numbers;
-    let bytes = &mut given.bytes;
-    match name {
-        "D" => push_framed(bytes, b'D', numbers)?,
-        "H" => push_framed(bytes, b'H', numbers)?,
-        "M" => push_framed(bytes, b'M', numbers)?,
-        "C" => push_reason(bytes, b'C', first)?,
-        "E" => push_reason(bytes, b'E', first)?,
-        "P" => push_pair(bytes, first)?,
-        "groups" => push_groups(bytes, first)?,
-        "fill" => push_fill(bytes, first, low_byte(second))?,
-        "cut" => bytes.truncate(first as usize),
-        "chunked" => *bytes = chunked(heap, bytes.as_slice(), first as usize)?,
-        _ => return Err(anyhow!("an unknown word")),
-    }
-    Ok(())
+// What a case is given.
+#[derive(Drop)]
+pub struct Given {
+    // what the leftover layer is loaded with
+    pub loaded: Vec<u8>,
+    // what the lowest carrier gives
+    pub bytes: Vec<u8>,
 }
 
-// Adds what a word says.
-fn push_word(heap: Global, given: &mut Given, word: &str) -> anyhow::Result<()> {
-    let (name, fields) = word.split_once('.').unwrap_or((word, ""));
-    match name {
-        "x" => push_hex(&mut given.bytes, fields),
-        "t" => Ok(given.bytes.extend_from_slice(fields.as_bytes())?),
-        "r" => Ok(given.bytes.extend_from_slice(b"\r\n")?),
-        "loaded" => {
-            std::mem::swap(&mut given.bytes, &mut given.loaded);
-            Ok(())
+impl Given {
+    // What the words say.
+    pub fn from_words(heap: Global, words: &str) -> anyhow::Result<Given> {
+        let mut given = Given {
+            loaded: Vec::new(heap),
+            bytes: Vec::new(heap),
+        };
+        for word in words.split_ascii_whitespace() {
+            given.add(heap, Word::try_from(word)?)?;
         }
-        _ => push_numbered(heap, given, name, numbers_of(fields)?),
+        Ok(given)
     }
-}
 
-// What the words say.
-pub fn given_by(heap: Global, words: &str) -> anyhow::Result<Given> {
-    let mut given = Given {
-        loaded: Vec::new(heap),
-        bytes: Vec::new(heap),
-    };
-    for word in words.split_ascii_whitespace() {
-        push_word(heap, &mut given, word)?;
+    // Adds what a word says.
+    fn add(&mut self, heap: Global, word: Word<'_>) -> anyhow::Result<()> {
+        let bytes = &mut self.bytes;
+        match word {
+            Word::Framed(letter, numbers) => push_framed(bytes, letter, numbers)?,
+            Word::Reason(letter, reason) => push_reason(bytes, letter, reason)?,
+            Word::Pair(payload) => push_pair(bytes, payload)?,
+            Word::Groups(count) => push_groups(bytes, count)?,
+            Word::Hex(digits) => push_hex(bytes, digits)?,
+            Word::Text(text) => bytes.extend_from_slice(text.as_bytes())?,
+            Word::LineEnd => bytes.extend_from_slice(b"\r\n")?,
+            Word::Fill(count, byte) => bytes.extend(repeat_n(byte, count as usize))?,
+            Word::Chunked(size) => *bytes = chunked(heap, bytes, size as usize)?,
+            Word::Cut(count) => bytes.truncate(count as usize),
+            Word::Loaded => std::mem::swap(bytes, &mut self.loaded),
+        }
+        Ok(())
     }
-    Ok(given)
 }
