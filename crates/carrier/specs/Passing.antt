@@ -17,6 +17,11 @@ abbrev pub passed : Ending → Ending
 passed Clean = Clean
 passed (Broken f) = Broken (deeper f)
 
+-- an ending from beneath where more is wanted: a clean one is a fault of the layer's own
+abbrev pub too_early : Fault → Ending → Ending
+too_early early Clean = Broken early
+too_early early (Broken f) = Broken (deeper f)
+
 -- a count of bytes drawn, after so many more; places stop at 2^64 - 1
 abbrev pub counted : ℕ → ℕ → ℕ
 counted drawn more = drawn + min more (2 ^ 64 - 1 - drawn)

@@ -1,6 +1,6 @@
 // What stands behind the last byte of a carrier, and how a layer passes it on.
 ghost use Rattle.std.specs.Prelude.{◌≡◌};
-ghost use Rattle.carrier.specs.Passing.{found, deeper, passed};
+ghost use Rattle.carrier.specs.Passing.{found, deeper, passed, too_early};
 
 // Why a carrier broke off, and where that was found.
 #[derive(Clone, Copy)]
@@ -21,7 +21,8 @@ pub enum Ending {
 }
 
 impl Fault {
-    // A fault that its finder tells: no layer stands above it yet.
+    // A fault that its finder tells, by the number of its own cause: no layer stands above it yet.
+    // Each finder casts its cause, whose enum has the numbers; a `From` for each would say no more.
     pub fn found(cause: u8, place: u64) -> Fault
         ensures { result ≡ found cause place }
     {
@@ -51,6 +52,16 @@ impl Ending {
         match self {
             Ending::Clean => Ending::Clean,
             Ending::Broken(fault) => Ending::Broken(fault.passed_on()),
+        }
+    }
+
+    // The ending as a layer tells it that wants more from beneath: the fault `early` where it is a clean one.
+    pub fn too_early(self, early: Fault) -> Ending
+        ensures { result ≡ too_early early self }
+    {
+        match self {
+            Ending::Clean => Ending::Broken(early),
+            Ending::Broken(_) => self.passed_on(),
         }
     }
 }

@@ -14,10 +14,10 @@ mod images;
 
 pub use endings::{Ending, Fault};
 pub use filling::{Short, fill};
-pub use images::Image;
+pub use images::{Image, hand_out};
 
 pub trait Carrier {
-    // The body bytes to come, and what stands behind them.
+    // The body bytes to come, and what stands behind them. Two members, as lists and endings each have definitions of their own.
     ghost coming: { Self → List ℕ };
 
     ghost ending: { Self → Ending };
@@ -26,8 +26,8 @@ pub trait Carrier {
     // carrier beneath t lacks exactly what the one above it has used for that.
     ghost lacks: { Self → ℕ → Bool → Self → Type 0 };
 
-    // Puts some of the bytes to come at the front of `out`, and answers how many (Taken); or tells the ending
-    // where none are to come: a clean one (Ended), or a fault (Broken).
+    // Puts some of the bytes to come at the front of `out`, and answers how many; or tells the ending where none are to come.
+    // Each carrier answers an empty `out` itself: a provided method over one for the rest would be two where callers know one.
     fn pull(&mut self, out: &mut [u8]) -> Result<usize, Ending>
         ensures answers { Answers (coming self.old) (ending self.old) out.old result (coming self.new) (ending self.new) out.new }
         ensures lacks { lacks self.old (given result) (told result) self.new };
