@@ -12,8 +12,8 @@ pub enum BodyKind {
     PlayNext,
 }
 
-// Where in a body's grammar the next packet stands. The number is the Incarnation of the header
-// that is being read or is in force.
+// Where in a body's grammar the next packet stands. The number is the Incarnation of the header that is being read or is in force.
+// With and without one are two positions, and so are Describe's and another body's, since each has rules of its own in the one match.
 #[derive(Clone, Copy)]
 pub enum Position {
     // Describe: the mix of $P and $M, before and behind its first $M
@@ -49,6 +49,7 @@ pub enum PacketFault {
     TooManyEntries = 30,
 }
 
+// The number that a fault is told by. One cast for each enum that is told so: its clause names its own rule.
 impl From<PacketFault> for u8 {
     ghost from_gives = { λ fault number. number ≡ fault_number fault };
 
@@ -57,7 +58,8 @@ impl From<PacketFault> for u8 {
     }
 }
 
-// What a packet is told as: its kind, or stale for a $D of another Incarnation than the header in force.
+// What a packet is told as: its kind, or stale for a $D of another Incarnation than the header in force. The kinds stand here
+// once more, since a letter that held a `Kind` would be taken apart at every use.
 #[derive(Clone, Copy)]
 pub enum Letter {
     StreamChange,
@@ -86,10 +88,11 @@ pub struct Event {
     // how many headers the body has completed, this packet's among them
     pub entry: u8,
     pub fields: Fields,
+    // how many bytes of the work buffer are the payload; no slice, since the caller lends the buffer again while it has the event
     pub payload_length: u16,
 }
 
-// AFFlags of a $H: neither the first nor the last of its header, the first, the last, or both.
+// AFFlags of a $H, as the byte that an event tells: neither the first nor the last of its header, the first, the last, or both.
 const MIDDLE: u8 = 0x00;
 
 const FIRST: u8 = 0x04;
@@ -112,7 +115,7 @@ pub fn start(body: BodyKind, before: Option<u8>) -> Position
     }
 }
 
-// Whether a body may end here.
+// Whether a body may end here. Every position is named, so that a new one must be placed.
 pub fn may_end(at: Position) -> bool
     ensures { result ≡ ends at }
 {
@@ -132,7 +135,7 @@ pub fn may_end(at: Position) -> bool
     }
 }
 
-// The Incarnation of the header in force, where one is.
+// The Incarnation of the header in force, where one is. Every position is named, as in `may_end`.
 pub fn in_force(at: Position) -> Option<u8>
     ensures { result ≡ in_force_at at }
 {
@@ -150,7 +153,7 @@ pub fn in_force(at: Position) -> Option<u8>
     }
 }
 
-// The packet is told by its letter, and the body goes on at `next`.
+// The packet is told by its letter, and the body goes on at `next`. Three arguments, since this is what makes a `Judged` of them.
 fn told(letter: Letter, next: Position, entry: u8) -> Result<Judged, PacketFault>
     ensures { result ≡ tells letter next entry }
 {
@@ -254,6 +257,7 @@ pub fn judge(packet: Packet, at: Position, entry: u8) -> Result<Judged, PacketFa
         (Kind::Data, Position::InForce(of) | Position::ResumingUnder(of)) => {
             told(Letter::Stale, Position::InForce(of), entry)
         }
+        // an event tells Reason as it is; only 1 means something here
         (Kind::EndOfStream, Position::InForce(_) | Position::ResumingUnder(_)) if reason == 1 => {
             told(Letter::EndOfStream, Position::EntryOver, entry)
         }

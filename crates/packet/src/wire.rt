@@ -25,7 +25,7 @@ pub struct Head {
     pub length: u16,
 }
 
-// The header fields, each 0 where the kind lacks it.
+// The header fields. A kind that lacks one has 0 there, which is a rule and no mark of absence.
 #[derive(Clone, Copy, Default)]
 pub struct Fields {
     pub location_id: u32,
@@ -35,7 +35,7 @@ pub struct Fields {
     pub reason: u32,
 }
 
-// A packet without its payload bytes.
+// A packet without its payload bytes. It has no `Head` within: each of its readers would go through `head`.
 #[derive(Clone, Copy)]
 pub struct Packet {
     pub kind: Kind,
@@ -53,7 +53,7 @@ impl TryFrom<u8> for Kind {
 
     ghost try_from_gives = { λ letter r. r ≡ ok_or (kind_of letter) fault.Kind };
 
-    fn try_from(letter: u8) -> Result<Self, PacketFault> {
+    fn try_from(letter: u8) -> Result<Kind, PacketFault> {
         match letter as char {
             'C' => Ok(Kind::StreamChange),
             'D' => Ok(Kind::Data),
