@@ -1,5 +1,5 @@
 // Whether a byte string is a capture.
-ghost use Rattle.std.specs.Prelude.{◌≡◌, [], Ok, Err};
+ghost use Rattle.std.specs.Prelude.{◌≡◌, [], Ok, Err, OnErr};
 ghost use Rattle.carrier.specs.declared.endings.Ending.TheVariants.{Clean};
 ghost use Rattle.capture.specs.Pieces.{numbers};
 ghost use Rattle.capture.specs.Examples.{SaysSo};
@@ -15,6 +15,7 @@ use carrier::{Ending, Fault};
 fn make_up(lengths: &[u8], count: usize) -> bool
     ensures { result ≡ pieced (numbers lengths.now) count }
 {
+    // nothing is left behind the last: the section has four bytes for each
     let (pieces, _) = lengths.as_chunks::<4>();
     let mut left = count;
     for piece in pieces {
@@ -31,6 +32,7 @@ fn make_up(lengths: &[u8], count: usize) -> bool
 fn read_ending(endings: &[u8], count: usize) -> Result<Ending, CaptureRefusal>
     ensures { result ≡ ended endings.now count }
 {
+    // one byte of the format, read here alone
     match endings {
         [0] => Ok(Ending::Clean),
         [1] => Ok(Ending::Broken(Fault::found(CaptureCause::LineBroke as u8, count as u64))),
@@ -51,11 +53,13 @@ impl<'a> Capture<'a> {
         }
     }
 
-    // Takes up the input where it is a capture; otherwise says why it is none, and stays as it was.
+    // Takes up the input where it is a capture; otherwise says why it is none, and stays as it was. For callers that hold a capture
+    // already, which they keep then.
+    // The first two clauses compare by cases, as a caller knows `self.new` and not the capture that was read.
     pub fn check(&mut self, input: &'a [u8]) -> Result<(), CaptureRefusal>
         ensures holds { elim result [ Ok _ ↦ checked input.now ≡ Ok (held self.new) | Err e ↦ checked input.now ≡ Err e ] }
         ensures carries { elim result [ Ok _ ↦ captured input.now ≡ Ok (carried self.new) | Err e ↦ captured input.now ≡ Err e ] }
-        ensures kept { elim result [ Ok _ ↦ Unit {0} | Err e ↦ self.new ≡ self.old ] }
+        ensures kept { OnErr result (self.new ≡ self.old) }
         ensures accepts_exactly_captures { AcceptsExactlyCaptures }
         ensures examples { SaysSo }
     {

@@ -19,9 +19,9 @@ pub use sections::{CaptureCause, CaptureRefusal};
 // A capture that was checked, and what of it is still to come.
 #[derive(Drop)]
 pub struct Capture<'a> {
-    // the lengths of the pieces not begun, four bytes each
+    // the lengths of the pieces not begun, four bytes each as they are written
     lengths: &'a [u8],
-    // what is left of the piece being handed out, 0 where none is
+    // what is left of the piece being handed out, 0 where none is: no piece is empty
     left: u32,
     // the bytes to come
     bytes: &'a [u8],

@@ -6,7 +6,7 @@ ghost use Rattle.capture.specs.declared.Capture.{Capture};
 ghost use Rattle.capture.specs.Replays.{pieces, held, answer, less};
 
 use super::Capture;
-use carrier::{Carrier, Ending};
+use carrier::{Carrier, Ending, hand_out};
 
 impl Capture<'_> {
     // Begins the next piece where none is being handed out.
@@ -44,10 +44,8 @@ impl Carrier for Capture<'_> {
         if self.left == 0 {
             return Err(self.ending);
         }
-        let n = room.min(self.left as usize);
-        let (taken, rest) = self.bytes.split_at(n);
-        out[..n].copy_from_slice(taken);
-        self.bytes = rest;
+        let most = room.min(self.left as usize);
+        let n = hand_out(&mut self.bytes, &mut out[..most]);
         self.left -= n as u32;
         Ok(n)
     }

@@ -1,4 +1,5 @@
-// The sections of a capture, each behind a count of its items.
+// The sections of a capture, each behind a count of its items. Each contract compares case by case with its definition, since what
+// is read borrows and is compared by its bytes.
 ghost use Rattle.std.specs.Prelude.{◌≡◌, Ok, Err};
 ghost use Rattle.capture.specs.Sections.{counted, parted, section, sections};
 ghost use Rattle.capture.specs.Captures.{refusal_number};
@@ -34,7 +35,7 @@ pub enum CaptureCause {
 
 const MOST_PIECES: u32 = 4096;
 
-// What the three sections hold.
+// What the three sections hold. The lengths stay as they are written: that is what the definitions of a recording speak of.
 pub(crate) struct Sections<'a> {
     pub(crate) lengths: &'a [u8],
     pub(crate) bytes: &'a [u8],

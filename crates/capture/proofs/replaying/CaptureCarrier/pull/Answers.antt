@@ -1,5 +1,5 @@
-use Rattle.std.proofs.Common.{◌≡◌, ℕ, ◌-◌, ◌<◌, true, List, [], ◌∷◌, ◌++◌, length, take, drop, Err, sym, refl, ap, ◌∙◌, arith}
-use Rattle.std.proofs.lemmas.List.{nil_from_length}
+use Rattle.std.proofs.Common.{append-nil, length-drop, ◌≡◌, ℕ, ◌-◌, ◌<◌, true, List, [], ◌∷◌, ◌++◌, length, take, drop, Err, sym, refl, ap, ◌∙◌, arith}
+use Rattle.std.proofs.lemmas.List.{nil_from_length, drop_all, length-take-le}
 use Rattle.carrier.specs.declared.endings.Ending.{Ending}
 use Rattle.capture.specs.declared.Capture.{Capture}
 use Rattle.capture.specs.Pieces.{numbers}
@@ -43,26 +43,43 @@ returns-then-self-eq0 c =
 pub invariant_of-self : goal.invariant_of-self
 invariant_of-self c =
     let t = c.begin.new.self in
-    let n = c.min-n.result in
+    let n = c.hand_out-n.result in
+    let handed = c.hand_out-n.ensures in
+    let fits = made_up_parts t.left (numbers t.lengths.now) (length t.bytes.now) t.made_up in
+    let most = length-take-le c.min-most.result c.args.out.now (omega arith) in
+    let left = ap length handed.bytes ∙ length-drop n t.bytes.now in
     record {
       few = let few = few_to_come (t.left - n) t.left (numbers t.lengths.now) (omega arith) in omega (arith, t.few);
-      made_up = made_up_handed t.left n (numbers t.lengths.now) (length t.bytes.now) _ (omega arith) c.split_at.ensures.back_len t.made_up;
+      made_up = made_up_handed t.left n (numbers t.lengths.now) (length t.bytes.now) _ (omega arith) (omega (arith, left, most)) t.made_up;
     }
 
 pub returns : goal.returns
 returns c =
     let s : Capture = c.args.self.now in
     let t : Capture = c.begin.new.self in
-    let n = c.min-n.result in
+    let w = c.args.out.now in
+    let n = c.hand_out-n.result in
+    let handed = c.hand_out-n.ensures in
     let b = bytes s t c.begin.ensures.same in
     let e = ending s t c.begin.ensures.same in
     let q = first s t c.begin.ensures.same (omega arith) in
     let len = ap length b in
     let fits = made_up_parts t.left (numbers t.lengths.now) (length t.bytes.now) t.made_up in
-    let rest = c.split_at.ensures.back ∙ ap (drop n) b in
+    let most = length-take-le c.min-most.result w (omega arith) in
+    let all : n ≡ c.min-most.result = omega (arith, most) in
+    let nothing : drop n (take c.min-most.result w) ≡ [] = drop_all n _ (omega (arith, most)) in
+    let rest = handed.bytes ∙ ap (drop n) b in
     record {
-      answers = (omega arith, omega arith, λ h. omega arith, rest, e, ap (λ bs. bs ++ drop n c.args.out.now) (c.copy_from_slice.ensures.after ∙ c.split_at.ensures.front ∙ ap (take n) b));
+      answers = (
+        omega arith,
+        omega (arith, most),
+        λ h. omega (arith, most),
+        rest,
+        e,
+        ap (λ bs. bs ++ drop c.min-most.result w) (handed.out ∙ ap (λ bs. take n t.bytes.now ++ bs) nothing ∙ append-nil (take n t.bytes.now) ∙ ap (take n) b)
+            ∙ ap (λ k. take n s.bytes.now ++ drop k w) (sym all),
+      );
       lacks = ((omega arith, rest, λ h. cc), e);
-      one_piece = rw q (sym (answer_taken t.left (numbers t.lengths.now) s.ending (length c.args.out.now) n (omega arith) c.min-n.ensures));
+      one_piece = rw q (sym (answer_taken t.left (numbers t.lengths.now) s.ending (length w) n (omega arith) (omega (arith, most))));
       left = rw q refl;
     }
