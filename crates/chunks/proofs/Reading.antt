@@ -56,10 +56,10 @@ Rest (state.Trailer j at) bs ds = j ≤ 1023 → LinesFrom at bs × (j + length 
 Rest state.Done bs ds = (bs ≡ []) × (ds ≡ [])
 Rest (state.Failed c) bs ds = ⊥
 
--- by a test that chose the state
-chosen : (t : Bool) (x y : State) (bs ds : List ℕ) {G : Type 0} → Rest (cond t x y) bs ds → (t ≡ true → Rest x bs ds → G) → (t ≡ false → Rest y bs ds → G) → G
-chosen true x y bs ds r f g = f refl r
-chosen false x y bs ds r f g = g refl r
+-- by a test that chose what a fact is about
+chosen : {X : Type 0} (P : X → Type 0) (t : Bool) (x y : X) {G : Type 0} → P (cond t x y) → (t ≡ true → P x → G) → (t ≡ false → P y → G) → G
+chosen P true x y r f g = f refl r
+chosen P false x y r f g = g refl r
 
 -- the same byte, by the test that told it
 same_first : (b c : ℕ) (bs cs : List ℕ) → eqb b c ≡ true → bs ≡ cs → b ∷ bs ≡ c ∷ cs
@@ -68,7 +68,7 @@ same_first b c bs cs t e = grind (arith, nat_tests)
 module _ (bs ds : List ℕ) (b : ℕ) where
   from_digits : (k v : ℕ) (d : Option ℕ) → digit_of b ≡ d → Rest (after_size k v b d) bs ds → Rest (state.Size k v) (b ∷ bs) ds
   from_digits k v (Some d) is r small few =
-      chosen (ltb k 8) (state.Size (k + 1) (v % 2 ^ 28 * 16 + d)) _ bs ds r (λ t rest.
+      chosen (λ x. Rest x bs ds) (ltb k 8) (state.Size (k + 1) (v % 2 ^ 28 * 16 + d)) _ r (λ t rest.
       let less : k < 8 = ltb-true k 8 t in
       let more = digit_more k v b d is less small in
       let in_rest = rest (subst (λ n. n < 16 ^ (k + 1)) (sym more.0) more.1) (omega arith) in
@@ -86,19 +86,19 @@ module _ (bs ds : List ℕ) (b : ℕ) where
         subst (λ n. Tail n in_rest.2 ds) value in_rest.9,
       )) (λ t rest. absurd rest)
   from_digits k v None is r small few =
-      chosen (eqb k 0) _ _ bs ds r (λ t rest. absurd rest) (λ t r.
+      chosen (λ x. Rest x bs ds) (eqb k 0) _ _ r (λ t rest. absurd rest) (λ t r.
       let some : 0 < k = let not_None = eqb-false k 0 t in omega arith in
       let same : v ≡ v * 16 ^ 0 + 0 = omega arith in
-      chosen (eqb b 13) (state.SizeCr v) _ bs ds r (λ t rest. ([], [], rest.0, 0, same_first b 13 bs (10 ∷ rest.0) t rest.1, Hex.none, omega arith, omega arith, Extension.absent, subst (λ n. Tail n rest.0 ds) same rest.2)) (λ t r.
-      chosen (eqb b 59) (state.Extension 1 v) _ bs ds r (λ t rest.
+      chosen (λ x. Rest x bs ds) (eqb b 13) (state.SizeCr v) _ r (λ t rest. ([], [], rest.0, 0, same_first b 13 bs (10 ∷ rest.0) t rest.1, Hex.none, omega arith, omega arith, Extension.absent, subst (λ n. Tail n rest.0 ds) same rest.2)) (λ t r.
+      chosen (λ x. Rest x bs ds) (eqb b 59) (state.Extension 1 v) _ r (λ t rest.
       let in_rest = rest (omega arith) in
       ([], 59 ∷ in_rest.0, in_rest.1, 0, same_first b 59 bs _ t in_rest.2, Hex.none, omega arith, omega arith, Extension.present in_rest.3 (omega (arith, in_rest.4)), subst (λ n. Tail n in_rest.1 ds) same in_rest.5)) (λ t rest. absurd rest)))
 
   from_extension : (j v : ℕ) → Rest (next_state (state.Extension j v) b) bs ds → Rest (state.Extension j v) (b ∷ bs) ds
   from_extension j v r few =
-      chosen (eqb b 13) (state.SizeCr v) _ bs ds r (λ t rest. ([], rest.0, same_first b 13 bs (10 ∷ rest.0) t rest.1, tt, omega arith, rest.2)) (λ no-cr r.
-      chosen (eqb b 10) _ _ bs ds r (λ t rest. absurd rest) (λ no-lf r.
-      chosen (ltb j 256) (state.Extension (j + 1) v) _ bs ds r (λ t rest.
+      chosen (λ x. Rest x bs ds) (eqb b 13) (state.SizeCr v) _ r (λ t rest. ([], rest.0, same_first b 13 bs (10 ∷ rest.0) t rest.1, tt, omega arith, rest.2)) (λ no-cr r.
+      chosen (λ x. Rest x bs ds) (eqb b 10) _ _ r (λ t rest. absurd rest) (λ no-lf r.
+      chosen (λ x. Rest x bs ds) (ltb j 256) (state.Extension (j + 1) v) _ r (λ t rest.
       let less : j < 256 = ltb-true j 256 t in
       let in_rest = rest (omega arith) in
       (b ∷ in_rest.0, in_rest.1, ap (λ l. b ∷ l) in_rest.2, (eqb-false b 13 no-cr, eqb-false b 10 no-lf, in_rest.3), omega (arith, in_rest.4), in_rest.5)) (λ t rest. absurd rest)))
@@ -108,10 +108,10 @@ module _ (bs ds : List ℕ) (b : ℕ) where
   from_size_line (suc n) r = r
 
   from_size_cr : (v : ℕ) → Rest (next_state (state.SizeCr v) b) bs ds → Rest (state.SizeCr v) (b ∷ bs) ds
-  from_size_cr v r = chosen (eqb b 10) (after_size_line v) _ bs ds r (λ t rest. (bs, same_first b 10 bs bs t refl, from_size_line v rest)) (λ t rest. absurd rest)
+  from_size_cr v r = chosen (λ x. Rest x bs ds) (eqb b 10) (after_size_line v) _ r (λ t rest. (bs, same_first b 10 bs bs t refl, from_size_line v rest)) (λ t rest. absurd rest)
 
   from_data : (n : ℕ) → Rest (next_state (state.Data n) b) bs ds → Rest (state.Data n) (b ∷ bs) (data_byte (state.Data n) b ++ ds)
-  from_data zero r = chosen (eqb b 13) state.DataCr _ bs ds r (λ t rest. ([], rest.0, ds, same_first b 13 bs (10 ∷ rest.0) t rest.1, refl, refl, rest.2)) (λ t rest. absurd rest)
+  from_data zero r = chosen (λ x. Rest x bs ds) (eqb b 13) state.DataCr _ r (λ t rest. ([], rest.0, ds, same_first b 13 bs (10 ∷ rest.0) t rest.1, refl, refl, rest.2)) (λ t rest. absurd rest)
   from_data (suc n) r = (b ∷ r.0, r.1, r.2, ap (λ l. b ∷ l) r.3, ap suc r.4, ap (λ l. b ∷ l) r.5, r.6)
 
 apart : (hs ext l : List ℕ) → (hs ++ (ext ++ CRLF)) ++ l ≡ hs ++ (ext ++ (CRLF ++ l))
@@ -135,7 +135,7 @@ body_rest bs ds r =
     subst (λ l. Body l ds) (sym in_rest.4) (whole_body hs in_rest.1 in_rest.2 ds in_rest.3 in_rest.5 (omega (arith, in_rest.6)) (omega (arith, in_rest.7)) in_rest.8 (subst (λ n. Tail n in_rest.2 ds) value in_rest.9))
 
 from_data_cr : (bs ds : List ℕ) (b : ℕ) → Rest (next_state state.DataCr b) bs ds → Rest state.DataCr (b ∷ bs) ds
-from_data_cr bs ds b r = chosen (eqb b 10) (state.Size 0 0) _ bs ds r (λ t rest. (bs, same_first b 10 bs bs t refl, body_rest bs ds rest)) (λ t rest. absurd rest)
+from_data_cr bs ds b r = chosen (λ x. Rest x bs ds) (eqb b 10) (state.Size 0 0) _ r (λ t rest. (bs, same_first b 10 bs bs t refl, body_rest bs ds rest)) (λ t rest. absurd rest)
 
 unbroken_more : (b : ℕ) (x : List ℕ) → b ≢ 13 → Unbroken x → Unbroken (b ∷ x)
 unbroken_more b x other u = grind arith
@@ -166,28 +166,24 @@ abbrev Led : Option Line → List ℕ → Type 0
 Led (Some at) bs = LinesFrom at bs
 Led None bs = bs ≡ []
 
-led_by : (t : Bool) (x y : Option Line) (bs : List ℕ) {G : Type 0} → Led (cond t x y) bs → (t ≡ true → Led x bs → G) → (t ≡ false → Led y bs → G) → G
-led_by true x y bs r f g = f refl r
-led_by false x y bs r f g = g refl r
-
 from_line : (at : Line) (b : ℕ) (bs : List ℕ) → Led (line_after at b) bs → LinesFrom at (b ∷ bs)
 from_line line.Start b bs r =
-    led_by (eqb b 13) (Some line.StartCr) (Some line.Inside) bs r (λ t l. subst Lines (sym (same_first b 13 bs bs t refl)) l) (λ t l. long_lines (b ∷ bs) (long_other b bs (eqb-false b 13 t) l))
+    chosen (λ x. Led x bs) (eqb b 13) (Some line.StartCr) (Some line.Inside) r (λ t l. subst Lines (sym (same_first b 13 bs bs t refl)) l) (λ t l. long_lines (b ∷ bs) (long_other b bs (eqb-false b 13 t) l))
 from_line line.StartCr b bs r =
-    led_by (eqb b 10) None _ bs r (λ t none. subst Lines (ap (λ l. 13 ∷ l) (sym (same_first b 10 bs [] t none))) Lines.blank) (λ no-lf r.
-    led_by (eqb b 13) (Some line.InsideCr) (Some line.Inside) bs r (λ t l. long_lines (13 ∷ (b ∷ bs)) (long_cr b bs (eqb-true b 13 t) l)) (λ t l. long_lines (13 ∷ (b ∷ bs)) (long_cr_other b bs (eqb-false b 13 t) (eqb-false b 10 no-lf) l)))
+    chosen (λ x. Led x bs) (eqb b 10) None _ r (λ t none. subst Lines (ap (λ l. 13 ∷ l) (sym (same_first b 10 bs [] t none))) Lines.blank) (λ no-lf r.
+    chosen (λ x. Led x bs) (eqb b 13) (Some line.InsideCr) (Some line.Inside) r (λ t l. long_lines (13 ∷ (b ∷ bs)) (long_cr b bs (eqb-true b 13 t) l)) (λ t l. long_lines (13 ∷ (b ∷ bs)) (long_cr_other b bs (eqb-false b 13 t) (eqb-false b 10 no-lf) l)))
 from_line line.Inside b bs r =
-    led_by (eqb b 13) (Some line.InsideCr) (Some line.Inside) bs r (λ t l. subst InLine (sym (same_first b 13 bs bs t refl)) l) (λ t l. long_in_line (b ∷ bs) (long_other b bs (eqb-false b 13 t) l))
+    chosen (λ x. Led x bs) (eqb b 13) (Some line.InsideCr) (Some line.Inside) r (λ t l. subst InLine (sym (same_first b 13 bs bs t refl)) l) (λ t l. long_in_line (b ∷ bs) (long_other b bs (eqb-false b 13 t) l))
 from_line line.InsideCr b bs r =
-    led_by (eqb b 10) (Some line.Start) _ bs r (λ t l. ([], bs, ap (λ l. 13 ∷ l) (same_first b 10 bs bs t refl), tt, l)) (λ no-lf r.
-    led_by (eqb b 13) (Some line.InsideCr) (Some line.Inside) bs r (λ t l. long_in_line (13 ∷ (b ∷ bs)) (long_cr b bs (eqb-true b 13 t) l)) (λ t l. long_in_line (13 ∷ (b ∷ bs)) (long_cr_other b bs (eqb-false b 13 t) (eqb-false b 10 no-lf) l)))
+    chosen (λ x. Led x bs) (eqb b 10) (Some line.Start) _ r (λ t l. ([], bs, ap (λ l. 13 ∷ l) (same_first b 10 bs bs t refl), tt, l)) (λ no-lf r.
+    chosen (λ x. Led x bs) (eqb b 13) (Some line.InsideCr) (Some line.Inside) r (λ t l. long_in_line (13 ∷ (b ∷ bs)) (long_cr b bs (eqb-true b 13 t) l)) (λ t l. long_in_line (13 ∷ (b ∷ bs)) (long_cr_other b bs (eqb-false b 13 t) (eqb-false b 10 no-lf) l)))
 
 from_trailer : (bs ds : List ℕ) (b j : ℕ) (at : Line) → Rest (next_state (state.Trailer j at) b) bs ds → Rest (state.Trailer j at) (b ∷ bs) ds
 from_trailer bs ds b j at r few = let l = by (line_after at b) r in (from_line at b bs l.0, l.1, l.2)
   where
     by : (o : Option Line) → Rest (after_trailer j o) bs ds → Led o bs × (j + suc (length bs) ≤ 1024) × (ds ≡ [])
     by (Some to) r =
-        chosen (ltb j 1023) (state.Trailer (j + 1) to) _ bs ds r (λ t rest.
+        chosen (λ x. Rest x bs ds) (ltb j 1023) (state.Trailer (j + 1) to) _ r (λ t rest.
         let less : j < 1023 = ltb-true j 1023 t in
         let lines = rest (omega arith) in
         (lines.0, omega (arith, lines.1), lines.2)) (λ t rest. absurd rest)

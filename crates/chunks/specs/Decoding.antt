@@ -3,7 +3,7 @@ use Rattle.std.specs.Prelude.{ℕ, zero, suc, ◌-◌, cond, List, [], ◌∷◌
 use Rattle.carrier.specs.declared.endings.Fault.{Fault}
 use Rattle.carrier.specs.declared.endings.Ending.{Ending}
 use Rattle.carrier.specs.declared.endings.Ending.TheVariants.{Clean, Broken}
-use Rattle.carrier.specs.Passing.{found, deeper, counted}
+use Rattle.carrier.specs.Passing.{found, too_early, counted}
 use Rattle.chunks.specs.declared.machine.ChunkCause.{ChunkCause}
 use Rattle.chunks.specs.declared.machine.ChunkCause.TheVariants.{EndsEarly}
 use Rattle.chunks.specs.declared.machine.State.{State}
@@ -37,8 +37,7 @@ own_fault c drawn = found (cause_number c) drawn
 
 -- the ending where the bytes beneath end before the body is over
 abbrev pub cut_short : ℕ → Ending → Ending
-cut_short drawn Clean = Broken (own_fault EndsEarly drawn)
-cut_short drawn (Broken f) = Broken (deeper f)
+cut_short drawn e = too_early (own_fault EndsEarly drawn) e
 
 -- the ending in a state that no byte leads on from, with so many bytes drawn and e behind them
 abbrev pub ending_at : State → ℕ → Ending → Ending

@@ -1,5 +1,5 @@
--- A run of bytes, split after some of them. (These lemmas stand in specs/ since the layer's `adds`, which rests on them, is part
--- of what its contract cites.)
+-- A run of bytes, split after some of them. (These lemmas stand in specs/ since the layer's law `adds` rests on them, and the proof
+-- of an impl's law can cite specs/ alone.)
 use Rattle.std.specs.Prelude.{◌≡◌, ℕ, zero, suc, ◌+◌, ◌-◌, ◌≤◌, true, false, List, [], ◌∷◌, ◌++◌, length, take, drop, refl}
 use Rattle.std.proofs.Common.{sym, ap, ◌∙◌, append_assoc, zero-add, suc-add, arith, length-append, take-append-drop}
 use Rattle.std.proofs.lemmas.Bool.{cond-true, cond-false}

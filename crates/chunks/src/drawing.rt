@@ -17,16 +17,6 @@ impl<C: Carrier> Chunks<C> {
         Fault::found(cause as u8, self.drawn)
     }
 
-    // The ending where the bytes beneath end before the body is over.
-    fn cut_short(&self, beneath: Ending) -> Ending
-        ensures { result ≡ cut_short self.now.drawn beneath }
-    {
-        match beneath {
-            Ending::Clean => Ending::Broken(self.fault(ChunkCause::EndsEarly)),
-            Ending::Broken(fault) => Ending::Broken(fault.passed_on()),
-        }
-    }
-
     // Draws bytes of a body that is not over, and counts them; or tells where they end that the body is cut short.
     pub(super) fn draw(&mut self, out: &mut [u8]) -> Result<usize, Ending>
         ensures answers { Answers (C.Carrier.coming self.old.beneath) (cut_short self.old.drawn (C.Carrier.ending self.old.beneath)) out.old result (C.Carrier.coming self.new.beneath) (cut_short self.old.drawn (C.Carrier.ending self.new.beneath)) out.new }
@@ -34,15 +24,16 @@ impl<C: Carrier> Chunks<C> {
         ensures state { self.new.state ≡ self.old.state }
         ensures drawn { self.new.drawn ≡ counted self.old.drawn (given result) }
     {
+        let early = self.fault(ChunkCause::EndsEarly);
         let n = self
             .beneath
             .pull(out)
-            .map_err(|ending| self.cut_short(ending))?;
+            .map_err(|ending| ending.too_early(early))?;
         self.drawn = self.drawn.saturating_add(n as u64);
         Ok(n)
     }
 
-    // A single byte of them.
+    // A single byte of them. What is told of the carrier beneath is handed to a definition member by member, as the trait has them.
     fn draw_byte(&mut self) -> Result<u8, Ending>
         ensures { Drew C.Carrier.coming C.Carrier.ending C.Carrier.lacks self.old self.new result }
     {
@@ -52,6 +43,7 @@ impl<C: Carrier> Chunks<C> {
     }
 
     // Draws single bytes until data is next, and answers how much is left of its chunk; or tells the ending.
+    // A loop: each state is made of the last one and a byte, whose drawing may fail.
     pub(super) fn advance(&mut self) -> Result<u32, Ending>
         ensures { Advanced C.Carrier.coming C.Carrier.ending C.Carrier.lacks self.old self.new result }
     {

@@ -84,7 +84,8 @@ fn after_size(digits: u8, value: u32, byte: u8) -> State
     match digit_of(byte) {
         Some(digit) if digits < MOST_DIGITS => State::Size {
             digits: digits + 1,
-            // no more than 7 digits came before, so that the remainder takes nothing away
+            // no more than 7 digits came before, so that the remainder takes nothing away; a state that kept this as an invariant
+            // would ask it of each function here
             value: value % (1 << 28) * 16 + digit,
         },
         Some(_) => State::Failed(ChunkCause::NinthDigit),
@@ -162,7 +163,7 @@ fn line_after(line: Line, byte: u8) -> Option<Line>
     }
 }
 
-// A byte of the trailer, of which `length` bytes came before it.
+// A byte of the trailer, of which `length` bytes came before it. Counted like an extension, but in another state and to another end.
 fn after_trailer(length: u16, line: Line, byte: u8) -> State
     ensures { result ≡ after_trailer length (line_after line byte) }
 {
