@@ -13,7 +13,7 @@ use Rattle.carrier.specs.declared.endings.Ending.TheVariants.{Clean, Broken}
 use Rattle.carrier.specs.declared.endings.Fault.{Fault}
 use Rattle.carrier.specs.Pulls.{Adds, Spent}
 use Rattle.layers.specs.declared.lengths.Length.{Length}
-use Rattle.carrier.specs.Passing.{found, deeper, counted}
+use Rattle.carrier.specs.Passing.{found, deeper, too_early, counted}
 
 -- what is to come, with bs to come beneath
 abbrev pub gives : ℕ → List ℕ → List ℕ
@@ -21,8 +21,7 @@ gives left bs = take left bs
 
 -- the bytes beneath end before the length is full: the layer's own fault, unless they break off themselves
 abbrev pub short : ℕ → Ending → Ending
-short place Clean = Broken (found 6 place)
-short place (Broken f) = Broken (deeper f)
+short place e = too_early (found 6 place) e
 
 -- the ending, with bs to come beneath and the ending e there
 abbrev pub ends : ℕ → ℕ → List ℕ → Ending → Ending

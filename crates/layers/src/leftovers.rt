@@ -1,7 +1,7 @@
 // The leftover layer: gives the bytes loaded into it, and then those beneath.
 ghost use Rattle.std.specs.Prelude.{◌≡◌, ◌≤◌, [], length, OnOk, OnErr};
 
-use carrier::{Carrier, Ending, Layer};
+use carrier::{Carrier, Ending, Layer, hand_out};
 
 // Why bytes are not loaded.
 #[derive(Clone, Copy)]
@@ -29,7 +29,7 @@ const ROOM: usize = 4096;
 #[derive(Drop)]
 pub struct Leftover<C> {
     beneath: C,
-    // the loaded bytes, at the back
+    // the loaded bytes, at the back of an array: a layer allocates nothing, and a Pull moves no byte that remains
     bytes: [u8; ROOM],
     // where those that are still to be given begin
     at: usize,
@@ -41,7 +41,7 @@ impl<C: Carrier> Leftover<C> {
     ghost use Rattle.layers.specs.Examples.{ExamplesHold};
     ghost use Rattle.carrier.specs.Passing.{passed};
 
-    // Nothing is loaded.
+    // Nothing is loaded. The worked examples stand at each `new` that makes a layer, which is where a reader looks for them.
     pub fn new(beneath: C) -> Leftover<C>
         ensures beneath { result.beneath ≡ beneath }
         ensures held { held result ≡ [] }
@@ -94,13 +94,12 @@ impl<C: Carrier> Carrier for Leftover<C> {
     ghost lacks = { Uses C.Carrier.lacks };
 
     fn pull(&mut self, out: &mut [u8]) -> Result<usize, Ending> {
-        let loaded = self.loaded();
+        let mut loaded = self.loaded();
         if loaded.is_empty() {
             return self.beneath.pull(out).map_err(Ending::passed_on);
         }
         // only loaded bytes, also where there is room for more
-        let n = loaded.len().min(out.len());
-        out[..n].copy_from_slice(&loaded[..n]);
+        let n = hand_out(&mut loaded, out);
         self.at += n;
         Ok(n)
     }

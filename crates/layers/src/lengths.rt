@@ -5,7 +5,7 @@ ghost use Rattle.layers.specs.Examples.{ExamplesHold};
 
 use carrier::{Carrier, Ending, Fault, Layer};
 
-// What the length layer finds wrong itself.
+// What the length layer finds wrong itself. Each finder has an enum of its own causes, numbered as they are told.
 #[derive(Clone, Copy)]
 pub enum LengthCause {
     // the bytes beneath end clean before so many have come
@@ -55,18 +55,15 @@ impl<C: Carrier> Carrier for Length<C> {
         }
         // no more than the length allows is asked of what is beneath
         let most = out.len().min(self.left as usize);
-        match self.beneath.pull(&mut out[..most]) {
-            Ok(n) => {
-                self.left -= n as u64;
-                self.drawn = self.drawn.saturating_add(n as u64);
-                Ok(n)
-            }
-            Err(Ending::Clean) => {
-                let early = Fault::found(LengthCause::EndsEarly as u8, self.drawn);
-                Err(Ending::Broken(early))
-            }
-            Err(broken) => Err(broken.passed_on()),
-        }
+        let early = Fault::found(LengthCause::EndsEarly as u8, self.drawn);
+        let n = self
+            .beneath
+            .pull(&mut out[..most])
+            .map_err(|ending| ending.too_early(early))?;
+        // counted as the chunk layer does; one function for both would need a trait for what layers hold
+        self.left -= n as u64;
+        self.drawn = self.drawn.saturating_add(n as u64);
+        Ok(n)
     }
 
     ghost adds = { length_adds C.Carrier.adds };
