@@ -1,5 +1,5 @@
 -- A Step that was granted: what its contract says, by the bytes to come.
-use Rattle.std.proofs.Common.{◌≡◌, ℕ, ◌<◌, ◌≤◌, true, leb, List, length, drop, Ok, Result, ap, ◌∙◌, arith, length-drop}
+use Rattle.std.proofs.Common.{◌≡◌, ℕ, ◌<◌, ◌≤◌, true, leb, List, length, drop, Ok, Result, ◌∙◌, arith, length-drop}
 use Rattle.std.proofs.lemmas.Bool.{le-leb}
 use Rattle.carrier.specs.declared.Carrier.{Ghosts}
 use Rattle.carrier.specs.declared.endings.Ending.{Ending}
@@ -40,10 +40,7 @@ module _ {C : Type 0} {m : Ghosts C} (adds : Adds m.coming m.ending m.lacks) {r 
   fits = le-leb work_length (length w) to.long
 
   pub answers : (steps s bs e).answer ≡ a
-  answers =
-      let answered = to.told.answer in
-      let h : ◌≡◌ {A = Result Answer StepRefusal} (Ok a) (Ok (steps s bs e).answer) = rw fits at answered in
-      cc
+  answers = let told = rw fits at to.told.answer in cc
 
   pub stands : t.standing ≡ (steps s bs e).standing
   stands = to.told.moved.standing ∙ rw fits
@@ -54,16 +51,13 @@ module _ {C : Type 0} {m : Ghosts C} (adds : Adds m.coming m.ending m.lacks) {r 
   -- behind an event
   module _ {ev : Event} (event : a ≡ answer.Event ev) where
     left : m.coming t.carrier ≡ drop (used bs) bs
-    left =
-        (adds.spends r.carrier t.carrier _ _ to.told.moved.lacks).1
-        ∙ ap (λ n. drop n bs) (rw (fits, (event_uses s bs e ev (answers ∙ event)).0.1))
+    left = (adds.spends r.carrier t.carrier _ _ to.told.moved.lacks).1 ∙ rw (fits, (event_uses s bs e ev (answers ∙ event)).0.1)
 
     pub shorter : length (drop (used bs) bs) < length bs
-    shorter = let u = event_uses s bs e ev (answers ∙ event) in let l = length-drop (used bs) bs in omega arith
+    shorter = let u = event_uses s bs e ev (answers ∙ event) in omega (arith, length-drop (used bs) bs)
 
     pub fewer : length (m.coming t.carrier) < length bs
-    fewer = let l = ap length left in let f = shorter in omega arith
+    fewer = rw left shorter
 
     pub behind : view m t ≡ view_of (steps s bs e).standing (drop (used bs) bs) e
-    behind =
-        let ending = adds.ends r.carrier t.carrier _ _ to.told.moved.lacks in (λ y. view_of (stands y) (left y) (ending y))
+    behind = rw (stands, left, adds.ends r.carrier t.carrier _ _ to.told.moved.lacks)

@@ -6,7 +6,7 @@ ghost use Rattle.receiver.specs.Steps.{step_fault_number, step_refusal_number};
 use carrier::Fault;
 use packet::{Event, Letter, PacketFault};
 
-// Why a Step is refused; nothing is altered then.
+// Why a Step is refused; nothing is altered then. An enum of its own, so that no Step is refused for a Pass's reason.
 #[derive(Clone, Copy)]
 pub enum StepRefusal {
     ShortWorkBuffer = 11, // the only one
@@ -31,7 +31,7 @@ pub enum StepFault {
     CarrierBroke(Fault),
 }
 
-// The number that a fault is told by.
+// The number that a fault is told by; 28 and 29 stand here, since an enum with data in a case has no numbered cases.
 impl From<StepFault> for u8 {
     ghost from_gives = { λ fault number. number ≡ step_fault_number fault };
 
@@ -52,6 +52,7 @@ pub struct Failure {
     pub place: u64,
 }
 
+// What a Step answers. No `Result`: an end is no error, and stops a body like a fault.
 #[derive(Clone, Copy)]
 pub enum Answer {
     Event(Event),

@@ -1,9 +1,9 @@
 // Draws one packet from a carrier: four bytes, then the rest that they announce.
 // Its fixed fields go into an array, its payload straight to the front of the work buffer.
-ghost use Rattle.std.specs.Prelude.{◌≡◌, ◌≤◌, true, length};
+ghost use Rattle.std.specs.Prelude.{◌≡◌, ◌+◌, ◌^◌, ◌<◌, ◌≤◌, true, length};
 ghost use Rattle.packet.specs.Wire.{lawful};
 ghost use Rattle.receiver.specs.declared.drawing.NoPacket.TheVariants.{BadHead, CutShort};
-ghost use Rattle.receiver.specs.Draws.{draws, rest_drawn, used, rest_used, ran_out, front, rest_front, laid_over};
+ghost use Rattle.receiver.specs.Draws.{draws, cut_short as cut_at, rest_drawn, used, rest_used, ran_out, front, rest_front, laid_over};
 
 use super::receiving::WORK_LENGTH;
 use carrier::{Carrier, Short, fill};
@@ -34,6 +34,17 @@ impl From<Short> for NoPacket {
     }
 }
 
+// An ending, behind so many bytes of a packet and those that came then.
+fn cut_short(before: usize, short: Short) -> NoPacket
+    requires { before + short.came < 2 ^ 64 }
+    ensures { result ≡ cut_at (before + short.came) short.ending }
+{
+    NoPacket::CutShort(Short {
+        came: before + short.came,
+        ..short
+    })
+}
+
 // The packet that comes next, its payload in front of the work buffer.
 pub(crate) fn draw<C: Carrier>(
     carrier: &mut C,
@@ -60,21 +71,12 @@ fn draw_rest<C: Carrier>(
     ensures buffer { work.new ≡ laid_over (rest_front head (C.Carrier.coming carrier.old)) work.old }
     ensures lacks { C.Carrier.lacks carrier.old (rest_used head (C.Carrier.coming carrier.old)) (ran_out result) carrier.new }
 {
-    let fixed = fixed_length(head.kind) as usize;
+    let fixed = usize::from(fixed_length(head.kind));
+    // no kind has more, and a receiver allocates nothing
     let mut bytes = [0; 8];
-    if let Err(short) = fill(carrier, &mut bytes[0..fixed]) {
-        return Err(NoPacket::CutShort(Short {
-            came: 4 + short.came,
-            ending: short.ending,
-        }));
-    }
-    let payload = head.length as usize - fixed;
-    if let Err(short) = fill(carrier, &mut work[0..payload]) {
-        return Err(NoPacket::CutShort(Short {
-            came: 4 + fixed + short.came,
-            ending: short.ending,
-        }));
-    }
+    fill(carrier, &mut bytes[..fixed]).map_err(|short| cut_short(4, short))?;
+    let payload = usize::from(head.length) - fixed;
+    fill(carrier, &mut work[..payload]).map_err(|short| cut_short(4 + fixed, short))?;
     Ok(Packet {
         kind: head.kind,
         length: head.length,

@@ -25,12 +25,14 @@ pub struct Receiver<C> {
 #[derive(Drop)]
 pub struct Closed<C> {
     pub carrier: C,
-    // whether the body was read to its clean end, so that another may be read from the carrier
+    // whether the body was read to its clean end, so that another may be read from the carrier; beside it, since the carrier is
+    // given back in either case
     pub reusable: bool,
 }
 
-// A receiver for a body, and the ticket that closes it.
-// The Incarnation from before counts for PlayNext only.
+// A receiver for a body, and the ticket that closes it. Each reader opens and closes by itself: a function around a closure would
+// have to say again what each closure promises.
+// The Incarnation from before counts for PlayNext only; it is a parameter of its own, as a caller has it whatever the kind.
 pub fn open<C: Carrier>(
     carrier: C,
     body: BodyKind,
@@ -52,6 +54,7 @@ pub fn open<C: Carrier>(
 
 impl<C: Carrier> Receiver<C> {
     // Reads one packet, its payload to the front of `work`; or tells the end, or a fault.
+    // Each call lays another thing over the buffer, so that only the word `laid_over` is common to their clauses.
     pub fn step(&mut self, work: &mut [u8]) -> Result<Answer, StepRefusal>
         ensures answer { result ≡ stepped (view C.Carrier self.old) (length work.old) }
         ensures buffer { work.new ≡ laid_over (step_front (view C.Carrier self.old) (length work.old)) work.old }
@@ -63,7 +66,8 @@ impl<C: Carrier> Receiver<C> {
         Ok(self.advance(work))
     }
 
-    // A Step whose work buffer is long enough.
+    // A Step whose work buffer is long enough. Its length has a clause that the proofs of both callers read:
+    // `laid_over` alone does not say it.
     fn advance(&mut self, work: &mut [u8; WORK_LENGTH]) -> Answer
         ensures answer { result ≡ (advanced (view C.Carrier self.old)).answer }
         ensures buffer { work.new ≡ laid_over (advance_front (view C.Carrier self.old)) work.old }
@@ -86,6 +90,7 @@ impl<C: Carrier> Receiver<C> {
         ensures buffer { work.new ≡ pass_buffer (view C.Carrier self.old) work.old }
         ensures moved { Moved C.Carrier self.old (pass_standing (view C.Carrier self.old) work.old) (pass_usage (view C.Carrier self.old) work.old) self.new }
     {
+        // as Step begins, with a refusal of Pass's own
         let Some(work) = work.first_chunk_mut() else {
             return Err(PassRefusal::ShortWorkBuffer);
         };
@@ -102,6 +107,7 @@ impl<C: Carrier> Receiver<C> {
         ensures length { length work.new ≡ 65535 }
         ensures moved { Moved C.Carrier self.old (passes (view C.Carrier self.old) work.old).standing (passes (view C.Carrier self.old) work.old).usage self.new }
     {
+        // counted by hand, since counts stop at their greatest value
         let mut delivered = 0u64;
         let mut stale = 0u64;
         loop {

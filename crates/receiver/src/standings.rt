@@ -11,7 +11,7 @@ use packet::{
     size_agrees, start,
 };
 
-// Whether packets are still to be read, or what Step answers for good.
+// Whether packets are still to be read, or what Step answers for good: three outcomes, like an answer's.
 #[derive(Clone, Copy)]
 pub enum Progress {
     Reading(Position),
@@ -44,10 +44,7 @@ impl Standing {
     pub fn ended(self) -> bool
         ensures { result ≡ ended self }
     {
-        match self.progress {
-            Progress::Ended(_) => true,
-            Progress::Reading(_) | Progress::Failed(_) => false,
-        }
+        matches!(self.progress, Progress::Ended(_))
     }
 
     // Whether a header is in force, and no fault was answered.
@@ -83,7 +80,7 @@ impl Standing {
         ensures standing { self.new ≡ (settles self.old at (Ok packet)).standing }
     {
         let place = self.place;
-        let behind = place.saturating_add(4 + packet.length as u64);
+        let behind = place.saturating_add(4 + u64::from(packet.length));
         if !size_agrees(packet) {
             return self.fail(behind, StepFault::Packet(PacketFault::PacketSize), place);
         }

@@ -3,7 +3,7 @@ ghost use Rattle.std.specs.Prelude.{◌≡◌, true, false};
 
 pub struct Ticket {
     number: u32,
-    // whether Close has taken the number
+    // whether Close has taken the number; a flag, since what may be let go is told by a clause about a field
     spent: bool,
 }
 
