@@ -1,7 +1,5 @@
 -- Which packets can go on behind those that were allowed.
-use Rattle.std.proofs.Common.{◌≡◌, ℕ, ◌+◌, true, ◌⊎◌, List, [], ◌∷◌, ◌++◌, Some, None, Err, Option, sym, refl, ◌∙◌, inl, inr, append_assoc, append-nil}
-use mathlib.Core.Path.{transport}
-use borrow.Author.Tests.{both_ways}
+use Rattle.std.proofs.Common.{◌≡◌, ℕ, true, ◌⊎◌, List, [], ◌∷◌, ◌++◌, Some, None, Err, Option, refl, ◌∙◌, inl, inr, append_assoc, append-nil}
 use Rattle.std.proofs.lemmas.Bool.{cases_eq}
 use Rattle.packet.specs.declared.wire.Packet.{Packet}
 use Rattle.packet.specs.declared.grammar.BodyKind.{BodyKind}
@@ -18,7 +16,7 @@ use Rattle.bodies.specs.Laws.{OutOfPlace, FaultsWhereNoBodyGoesOn, GoesOn, Limit
 use Rattle.bodies.proofs.Rest.{Rest, body_is_rest}
 use Rattle.bodies.proofs.Ruling.{ByteHeld, Follows, Ruled, ruled}
 use Rattle.bodies.proofs.Leading.{Leads, Goes, body_ends}
-use Rattle.bodies.proofs.Judging.{Gives, gives, completed_below, completed_at, out_is_not_ok, out_is_not_limit, ok_is_not_limit, out_leads_nowhere}
+use Rattle.bodies.proofs.Judging.{Gives, gives, completed_fits, completed_below, completed_at, out_is_not_ok, out_is_not_limit, out_leads_nowhere}
 use Rattle.bodies.proofs.Accepting.{Stands, stands_next, stands_first}
 use Rattle.bodies.proofs.Ending.{incarnation_small, completion}
 
@@ -29,6 +27,7 @@ pub record Arrives (now : Option ℕ) (before : List Packet) (from : Position) (
   pub goes_on : (qs : List Packet) → Rest here qs → Rest from (ps ++ qs)
   pub byte_held : AllLaid ps → ByteHeld from → ByteHeld here
 
+-- packets that are allowed one after another come to this
 pub arrives : (ps : List Packet) {now : Option ℕ} {before : List Packet} {from : Position} {entry place : ℕ} (here : Position) (n place' : ℕ)
     → Stands now before from entry place
     → Reached from entry place ps here n place'
@@ -60,6 +59,7 @@ goes_same from here end (p ∷ ps) qs (next, leads, more) (next', leads', more')
     goes_same next here end ps qs more (rw way at more')
 
 module _ (b : BodyKind) (before : Option ℕ) (ps : List Packet) (here : Position) (n place : ℕ) (p : Packet) (way : Reached (starts b before) 0 0 ps here n place) where
+  -- the same from where the body begins
   there : Arrives (from_before b before) [] (starts b before) ps here n place
   there = arrives ps here n place (stands_first b before) way
 
@@ -70,6 +70,7 @@ module _ (b : BodyKind) (before : Option ℕ) (ps : List Packet) (here : Positio
       let (next, leads, more) = goes_same (starts b before) here end ps (p ∷ qs) there.goes goes in
       (next, leads)
 
+  -- packets that go on with p to a body, laid out where p and those before it are
   abbrev On : Type 0
   On = (qs : List Packet) × Body b before (ps ++ (p ∷ qs)) × (AllLaid ps → LaidOut p → AllLaid qs)
 
@@ -78,61 +79,58 @@ module _ (b : BodyKind) (before : Option ℕ) (ps : List Packet) (here : Positio
   completes_on l next f =
       let (qs, rest, laid) = completion next in (
         qs,
-        transport (sym (body_is_rest b before (ps ++ (p ∷ qs)))) (there.goes_on (p ∷ qs) (f.goes_on qs rest)),
+        rw (body_is_rest b before (ps ++ (p ∷ qs))) (there.goes_on (p ∷ qs) (f.goes_on qs rest)),
         λ all one. laid (f.byte_held (incarnation_small p one) (there.byte_held all (none_held b before))),
       )
 
+  -- the packet is out of place, or goes on
   out_or_on : OutOfPlace (judged p here n) ⊎ On
-  out_or_on = go (ruled p here)
-    where
-      go : Ruled p p.kind here → OutOfPlace (judged p here n) ⊎ On
-      go (Ruled.refused out) = inl (out n)
-      go (Ruled.passes l next rule c f) = inr (completes_on l next f)
-      go (Ruled.counts next rule c f) = inr (completes_on letter.Header next f)
+  out_or_on =
+      elim (ruled p here) [
+        | Ruled.refused out ↦ inl (out n)
+        | Ruled.passes l next rule c f ↦ inr (completes_on l next f)
+        | Ruled.counts next rule c f ↦ inr (completes_on letter.Header next f)
+      ]
 
+  -- out of place, it goes on to no body
   ends_here : OutOfPlace (judged p here n) → (qs : List Packet) × Body b before (ps ++ (p ∷ qs)) → ⊥
-  ends_here fault (qs, whole) = go (ruled p here)
-    where
-      go : Ruled p p.kind here → ⊥
-      go (Ruled.refused out) = let (next, leads) = leads_here qs whole in out_leads_nowhere p here next (out 0) leads
-      go (Ruled.passes l next rule c f) = out_is_not_ok (judged p here n) (record { letter = l; next = next; entry = n }) fault (rule n)
-      go (Ruled.counts next rule c f) =
-          elim (cases_eq n 255) [
-            | inl limit ↦ out_is_not_limit (judged p here n) fault (rule n ∙ completed_at next n limit)
-            | inr below ↦ out_is_not_ok (judged p here n) (record { letter = letter.Header; next = next; entry = n + 1 }) fault (rule n ∙ completed_below next n below)
-          ]
+  ends_here fault (qs, whole) =
+      elim (ruled p here) [
+        | Ruled.refused out ↦ let (next, leads) = leads_here qs whole in out_leads_nowhere _ next (out 0) leads
+        | Ruled.passes l next rule c f ↦ out_is_not_ok _ _ fault (rule n)
+        | Ruled.counts next rule c f ↦ completed_fits next n (rw (rule n) at fault)
+      ]
 
+  -- the limit is met only by the 256th header, and by that one always
   at_limit : judged p here n ≡ Err fault.TooManyEntries → (headers ps ≡ 255) × (completes p ≡ true) × ((qs : List Packet) × Body b before (ps ++ (p ∷ qs)))
-  at_limit limit = go (ruled p here)
-    where
-      go : Ruled p p.kind here → (headers ps ≡ 255) × (completes p ≡ true) × ((qs : List Packet) × Body b before (ps ++ (p ∷ qs)))
-      go (Ruled.refused out) = absurd (out_is_not_limit (judged p here n) (out n) limit)
-      go (Ruled.passes l next rule c f) = absurd (ok_is_not_limit (judged p here n) (record { letter = l; next = next; entry = n }) (rule n) limit)
-      go (Ruled.counts next rule c f) =
-          let on : On = completes_on letter.Header next f in
-          let full : n ≡ 255 = elim (cases_eq n 255) [
-            | inl same ↦ same
-            | inr below ↦ absurd (ok_is_not_limit (judged p here n) (record { letter = letter.Header; next = next; entry = n + 1 }) (rule n ∙ completed_below next n below) limit)
-          ] in
-          (there.stands.count ∙ full, c, (on.0, on.1))
+  at_limit limit =
+      elim (ruled p here) [
+        | Ruled.refused out ↦ absurd (out_is_not_limit _ (out n) limit)
+        | Ruled.passes l next rule c f ↦ absurd (cc (rule n))
+        | Ruled.counts next rule c f ↦
+            let on : On = completes_on letter.Header next f in
+            let full : n ≡ 255 = elim (cases_eq n 255) [ inl same ↦ same | inr below ↦ absurd (cc (rule n ∙ completed_below next n below)) ] in
+            (there.stands.count ∙ full, c, (on.0, on.1))
+      ]
 
   limit_at : headers ps ≡ 255 → completes p ≡ true → (qs : List Packet) → Body b before (ps ++ (p ∷ qs)) → judged p here n ≡ Err fault.TooManyEntries
-  limit_at full counts qs whole = go (ruled p here)
-    where
-      go : Ruled p p.kind here → judged p here n ≡ Err fault.TooManyEntries
-      go (Ruled.refused out) = let (next, leads) = leads_here qs whole in absurd (out_leads_nowhere p here next (out 0) leads)
-      go (Ruled.passes l next rule c f) = absurd (both_ways (completes p) c counts)
-      go (Ruled.counts next rule c f) = rule n ∙ completed_at next n (sym there.stands.count ∙ full)
+  limit_at full counts qs whole =
+      elim (ruled p here) [
+        | Ruled.refused out ↦ let (next, leads) = leads_here qs whole in absurd (out_leads_nowhere _ next (out 0) leads)
+        | Ruled.passes l next rule c f ↦ absurd (cc)
+        | Ruled.counts next rule c f ↦ rule n ∙ completed_at next n (cc (there.stands.count))
+      ]
 
+-- the three laws
 pub goes_on : GoesOn
 goes_on b before ps here n place p way in_place =
     elim (out_or_on b before ps here n place p way) [ inl out ↦ absurd (in_place out) | inr on ↦ on ]
 
 pub faults_where_no_body_goes_on : FaultsWhereNoBodyGoesOn
-faults_where_no_body_goes_on b before ps here n place p way = (ends_here b before ps here n place p way, back)
-  where
-    back : ((qs : List Packet) × Body b before (ps ++ (p ∷ qs)) → ⊥) → OutOfPlace (judged p here n)
-    back none = elim (out_or_on b before ps here n place p way) [ inl out ↦ out | inr on ↦ absurd (none (on.0, on.1)) ]
+faults_where_no_body_goes_on b before ps here n place p way = (
+  ends_here b before ps here n place p way,
+  λ none. elim (out_or_on b before ps here n place p way) [ inl out ↦ out | inr on ↦ absurd (none (on.0, on.1)) ],
+)
 
 pub limit_at_the_256th_header : LimitAtThe256thHeader
 limit_at_the_256th_header b before ps here n place p way =

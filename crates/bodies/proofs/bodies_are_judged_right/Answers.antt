@@ -1,14 +1,9 @@
-use Rattle.std.proofs.Common.{refl}
-use Rattle.bodies.proofs.Accepting as accepting
+-- The two laws that the check does not find from the lemmas that the function names.
 use Rattle.bodies.proofs.Reaching as reaching
 use Rattle.bodies.proofs.bodies_are_judged_right.Goals as goal
 
-pub returns : goal.returns
-returns c =
-    record {
-      answer = refl;
-      accepts_exactly_bodies = accepting.accepts_exactly_bodies;
-      faults_where_no_body_goes_on = reaching.faults_where_no_body_goes_on;
-      goes_on = reaching.goes_on;
-      limit_at_the_256th_header = reaching.limit_at_the_256th_header;
-    }
+pub returns-clause-goes_on : goal.returns-clause-goes_on
+returns-clause-goes_on c = reaching.goes_on
+
+pub returns-clause-limit_at_the_256th_header : goal.returns-clause-limit_at_the_256th_header
+returns-clause-limit_at_the_256th_header c = reaching.limit_at_the_256th_header
