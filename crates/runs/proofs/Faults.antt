@@ -1,15 +1,14 @@
 -- A run faults at a packet exactly where no body goes on with it, and meets the limit exactly at the 256th header.
-use Rattle.std.proofs.Common.{◌≡◌, ℕ, suc, ◌+◌, ◌-◌, ◌≤◌, true, ◌⊎◌, ◌↔◌, List, [], ◌∷◌, ◌++◌, map, length, drop, Ok, Err, Option, Result, sym, refl, ap, ◌∙◌, subst, ap₂, inl, inr, append_assoc, append-nil, arith, length-append}
+use Rattle.std.proofs.Common.{◌≡◌, ℕ, suc, ◌+◌, ◌-◌, ◌≤◌, true, ◌⊎◌, ◌↔◌, List, [], ◌∷◌, ◌++◌, map, length, Ok, Err, Option, Result, sym, refl, ap, ◌∙◌, inl, inr, append_assoc, append-nil, arith, length-append}
 use Rattle.std.proofs.ByRecursion.{All-append}
+use Rattle.std.proofs.Math.Logic.{⊎_map}
 use Rattle.std.proofs.lemmas.List.{append_cancel_left}
-use Rattle.std.proofs.lemmas.Bool.{cases_eq}
 use Rattle.carrier.specs.declared.endings.Ending.{Ending}
 use Rattle.carrier.specs.declared.endings.Ending.TheVariants as ending
 use Rattle.packet.specs.declared.wire.Packet.{Packet}
 use Rattle.packet.specs.declared.grammar.BodyKind.{BodyKind}
 use Rattle.packet.specs.declared.grammar.Position.{Position}
 use Rattle.packet.specs.declared.grammar.Judged.{Judged}
-use Rattle.packet.specs.declared.grammar.Letter.TheVariants as letter
 use Rattle.packet.specs.declared.grammar.PacketFault.{PacketFault}
 use Rattle.packet.specs.declared.grammar.PacketFault.TheVariants as fault
 use Rattle.packet.specs.Judging.{judged, starts, behind, stopped, entry_limit}
@@ -18,15 +17,13 @@ use Rattle.receiver.specs.declared.answers.Answer.TheVariants as answer
 use Rattle.receiver.specs.declared.answers.Failure.{Failure}
 use Rattle.receiver.specs.declared.answers.StepFault.TheVariants as step_fault
 use Rattle.receiver.specs.declared.drawing.NoPacket.{NoPacket}
-use Rattle.receiver.specs.Draws.{draws, used}
 use Rattle.receiver.specs.Steps.{failure}
 use Rattle.bodies.specs.Layout.{ByteString, Laid, AllLaid}
 use Rattle.bodies.specs.Grammar.{Body}
 use Rattle.bodies.specs.Told.{headers, completes, events, Reached}
 use Rattle.bodies.specs.Laws.{OutOfPlace}
 use Rattle.bodies.proofs.Leading.{Goes, body_ends}
-use Rattle.bodies.proofs.Ruling.{Ruled, ruled}
-use Rattle.bodies.proofs.Judging.{Gives, gives, allowed, completed_below, completed_at, out_is_not_ok, out_is_not_limit}
+use Rattle.bodies.proofs.Judging.{Gives, gives, allowed, out_is_not_limit}
 use Rattle.bodies.proofs.Reaching.{faults_where_no_body_goes_on, goes_on, limit_at_the_256th_header}
 use Rattle.runs.specs.Answers.{run, answers}
 use Rattle.runs.specs.Bytes.{Bytes, BeginsABody}
@@ -38,27 +35,24 @@ use Rattle.runs.proofs.Running.{reading, left_over, run_over, run_fails, answers
 bytes_append : (ps more : List Packet) (qs rs : List ℕ) → Bytes ps qs → Bytes more rs → Bytes (ps ++ more) (qs ++ rs)
 bytes_append [] more qs rs none bytes = rw none bytes
 bytes_append (p ∷ ps) more qs rs (payload, ws, rest, laid, is, bytes) behind =
-    (payload, ws, rest ++ rs, laid, ap (λ x. x ++ rs) is ∙ append_assoc ws rest rs, bytes_append ps more rest rs bytes behind)
+    (payload, ws, rest ++ rs, laid, rw (is, append_assoc), bytes_append ps more rest rs bytes behind)
 
 -- bytes that begin with those of packets begin with those packets
 same_packet : (p p' : Packet) (payload payload' ws ws' r r' : List ℕ) → Laid p payload ws → Laid p' payload' ws' → ws ++ r ≡ ws' ++ r' → (p' ≡ p) × (r' ≡ r)
 same_packet p p' payload payload' ws ws' r r' laid laid' same =
-    let whole : draws (ws ++ r) ending.Clean ≡ Ok p = (laid_read p payload ws laid).drawn_whole r ending.Clean in
-    let whole' : draws (ws' ++ r') ending.Clean ≡ Ok p' = (laid_read p' payload' ws' laid').drawn_whole r' ending.Clean in
-    let both : ◌≡◌ {A = Result Packet NoPacket} (Ok p') (Ok p) = sym whole' ∙ ap (λ x. draws x ending.Clean) (sym same) ∙ whole in
-    (cc, sym (left_over p' payload' ws' laid' r') ∙ ap (λ x. drop (used x) x) (sym same) ∙ left_over p payload ws laid r)
+    let first = laid_read p payload ws laid in
+    let other = laid_read p' payload' ws' laid' in
+    let both : ◌≡◌ {A = Result Packet NoPacket} (Ok p') (Ok p) = cc (other.drawn_whole r' ending.Clean, first.drawn_whole r ending.Clean) in
+    (cc, cc (left_over p' payload' ws' laid' r', left_over p payload ws laid r))
 
 first_packets : (ps : List Packet) (qs r : List ℕ) (all : List Packet) → Bytes ps qs → Bytes all (qs ++ r) → (more : List Packet) × (all ≡ ps ++ more)
 first_packets [] qs r all none bytes = (all, refl)
 first_packets (p ∷ ps) qs r [] (payload, ws, rest, laid, is, bytes) none =
-    let size = (laid_read p payload ws laid).size in
-    let long : length qs ≡ length ws + length rest = ap length is ∙ length-append ws rest in
-    let nothing : length qs + length r ≡ 0 = sym (length-append qs r) ∙ ap length none in
-    absurd (omega arith)
+    absurd (omega (arith, (laid_read p payload ws laid).size, ap length is, length-append ws rest, ap length none, length-append qs r))
 first_packets (p ∷ ps) qs r (p' ∷ all) (payload, ws, rest, laid, is, bytes) (payload', ws', rest', laid', is', bytes') =
-    let (same, left) = same_packet p p' payload payload' ws ws' (rest ++ r) rest' laid laid' (sym (append_assoc ws rest r) ∙ ap (λ x. x ++ r) (sym is) ∙ is') in
+    let (same, left) = same_packet p p' payload payload' ws ws' (rest ++ r) rest' laid laid' (cc (append_assoc ws rest r)) in
     let (more, split) = first_packets ps rest r all bytes (rw left at bytes') in
-    (more, ap₂ ◌∷◌ same split)
+    (more, cc)
 
 -- packets that each have bytes have them one behind the other, and the other way round
 all_bytes : (ps : List Packet) → AllLaid ps → (qs : List ℕ) × ByteString qs × Bytes ps qs
@@ -67,6 +61,7 @@ all_bytes (p ∷ ps) ((payload, ws, laid, small), more) =
     let (rest, all_small, bytes) = all_bytes ps more in
     (ws ++ rest, All-append _ ws rest small all_small, (payload, ws, rest, laid, refl, bytes))
 
+-- bytes one behind the other are bytes each
 both_small : (xs ys : List ℕ) → ByteString (xs ++ ys) → ByteString xs × ByteString ys
 both_small [] ys small = (tt, small)
 both_small (x ∷ xs) ys (low, more) = let (left, right) = both_small xs ys more in ((low, left), right)
@@ -89,18 +84,12 @@ begins_reached from entry place (p ∷ ps) more end few (next, leads, goes) =
     let (here, n, place', way) = begins_reached j.next j.entry (behind place p.length) ps more end (omega arith) (rw (sym to) at goes) in
     (here, n, place', (j, ok, way))
 
--- a packet is out of place, or not
-out_or_not : (p : Packet) (here : Position) (n : ℕ) → OutOfPlace (judged p here n) ⊎ (OutOfPlace (judged p here n) → ⊥)
-out_or_not p here n = go (ruled p here)
-  where
-    go : Ruled p p.kind here → OutOfPlace (judged p here n) ⊎ (OutOfPlace (judged p here n) → ⊥)
-    go (Ruled.refused out) = inl (out n)
-    go (Ruled.passes l next rule c f) = inr (λ out. out_is_not_ok (judged p here n) (record { letter = l; next = next; entry = n }) out (rule n))
-    go (Ruled.counts next rule c f) =
-        elim (cases_eq n entry_limit) [
-          | inl limit ↦ inr (λ out. out_is_not_limit (judged p here n) out (rule n ∙ completed_at next n limit))
-          | inr below ↦ inr (λ out. out_is_not_ok (judged p here n) (record { letter = letter.Header; next = next; entry = n + 1 }) out (rule n ∙ completed_below next n below))
-        ]
+-- a judgement is that the packet is out of place, or not
+out_or_not : (r : Result Judged PacketFault) → OutOfPlace r ⊎ (OutOfPlace r → ⊥)
+out_or_not (Err fault.NotAllowedHere) = inl (inl refl)
+out_or_not (Err fault.HeaderMarks) = inl (inr (inl refl))
+out_or_not (Err fault.Incarnation) = inl (inr (inr refl))
+out_or_not any_other = inr (λ out. elim out [ inl e ↦ cc | inr rest ↦ elim rest [ inl e ↦ cc | inr e ↦ cc ] ])
 
 module _ (b : BodyKind) (before : Option ℕ) (ps : List Packet) (qs : List ℕ) (p : Packet) (payload ws : List ℕ) (bytes : Bytes ps qs) (laid : Laid p payload ws) where
   -- a body that goes on with the packet, in packets and in bytes
@@ -108,7 +97,7 @@ module _ (b : BodyKind) (before : Option ℕ) (ps : List Packet) (qs : List ℕ)
   in_packets (r, _, (all, all_bytes, whole)) =
       let alone : Bytes (p ∷ []) ws = (payload, ws, [], laid, sym (append-nil ws), refl) in
       let (more, split) = first_packets (ps ++ (p ∷ [])) (qs ++ ws) r all (bytes_append ps (p ∷ []) qs ws bytes alone) all_bytes in
-      (more, subst (Body b before) (split ∙ append_assoc ps (p ∷ []) more) whole)
+      (more, rw (split, append_assoc) at whole)
 
   in_bytes : (more : List Packet) → Body b before (ps ++ (p ∷ more)) → AllLaid more → BeginsABody b before (qs ++ ws)
   in_bytes more whole all =
@@ -137,19 +126,13 @@ module _ (b : BodyKind) (before : Option ℕ) (ps : List Packet) (qs : List ℕ)
     faults_by : (f : PacketFault) → judged p here n ≡ Err f → FaultsBehind b before ps qs f all_answers
     faults_by f bad =
         let (at_place, told) = answers_behind b before ps qs (ws ++ rest) e here n place way bytes in
-        told
-        ∙ ap (λ x. map answer.Event (events b before ps) ++ x)
-        (run_fails p payload ws laid here n place rest e (length (qs ++ (ws ++ rest)) - length ps) f bad ∙ ap (λ x. answer.Failed (failure (step_fault.Packet f) x) ∷ []) at_place)
+        cc (run_fails p payload ws laid here n place rest e (length (qs ++ (ws ++ rest)) - length ps) f bad)
 
     out_faults : OutOfPlace (judged p here n) → FaultsOutOfPlace b before ps qs all_answers
-    out_faults (inl bad) = inl (faults_by fault.NotAllowedHere bad)
-    out_faults (inr (inl bad)) = inr (inl (faults_by fault.HeaderMarks bad))
-    out_faults (inr (inr bad)) = inr (inr (faults_by fault.Incarnation bad))
+    out_faults = ⊎_map (faults_by fault.NotAllowedHere) (⊎_map (faults_by fault.HeaderMarks) (faults_by fault.Incarnation))
 
     faults_out : FaultsOutOfPlace b before ps qs all_answers → OutOfPlace (judged p here n)
-    faults_out (inl faults) = inl (fault_is fault.NotAllowedHere faults)
-    faults_out (inr (inl faults)) = inr (inl (fault_is fault.HeaderMarks faults))
-    faults_out (inr (inr faults)) = inr (inr (fault_is fault.Incarnation faults))
+    faults_out = ⊎_map (fault_is fault.NotAllowedHere) (⊎_map (fault_is fault.HeaderMarks) (fault_is fault.Incarnation))
 
     -- what is not out of place goes on to a body
     in_place : (OutOfPlace (judged p here n) → ⊥) → BeginsABody b before (qs ++ ws)
@@ -159,19 +142,19 @@ module _ (b : BodyKind) (before : Option ℕ) (ps : List Packet) (qs : List ℕ)
         in_bytes more whole (all (bytes_laid ps qs bytes before_small) (payload, ws, laid, next_small))
 
     faults_there : FaultsOutOfPlace b before ps qs all_answers ↔ (BeginsABody b before (qs ++ ws) → ⊥)
-    faults_there = (λ faults begins. (faults_where_no_body_goes_on b before ps here n place p way).0 (faults_out faults) (in_packets begins), back)
-      where
-        back : (BeginsABody b before (qs ++ ws) → ⊥) → FaultsOutOfPlace b before ps qs all_answers
-        back none = elim (out_or_not p here n) [ inl out ↦ out_faults out | inr fits ↦ absurd (none (in_place fits)) ]
+    faults_there = (
+      λ faults begins. (faults_where_no_body_goes_on b before ps here n place p way).0 (faults_out faults) (in_packets begins),
+      λ none. elim (out_or_not (judged p here n)) [ inl out ↦ out_faults out | inr fits ↦ absurd (none (in_place fits)) ],
+    )
 
     limit_there : FaultsBehind b before ps qs fault.TooManyEntries all_answers ↔ ((headers ps ≡ entry_limit) × (completes p ≡ true) × BeginsABody b before (qs ++ ws))
-    limit_there = (there, λ (full, counts, begins). faults_by fault.TooManyEntries ((limit_at_the_256th_header b before ps here n place p way).1 (full, counts, in_packets begins)))
-      where
-        there : FaultsBehind b before ps qs fault.TooManyEntries all_answers → (headers ps ≡ entry_limit) × (completes p ≡ true) × BeginsABody b before (qs ++ ws)
-        there faults =
-            let limit = fault_is fault.TooManyEntries faults in
-            let (full, counts, body) = (limit_at_the_256th_header b before ps here n place p way).0 limit in
-            (full, counts, in_place (λ out. out_is_not_limit (judged p here n) out limit))
+    limit_there = (
+      λ faults.
+          let limit = fault_is fault.TooManyEntries faults in
+          let (full, counts, body) = (limit_at_the_256th_header b before ps here n place p way).0 limit in
+          (full, counts, in_place (λ out. out_is_not_limit _ out limit)),
+      λ (full, counts, begins). faults_by fault.TooManyEntries ((limit_at_the_256th_header b before ps here n place p way).1 (full, counts, in_packets begins)),
+    )
 
 -- packets that a body begins with are allowed one after another, where they have few headers
 begins_allowed : (b : BodyKind) (before : Option ℕ) (ps : List Packet) (qs : List ℕ)
@@ -181,9 +164,10 @@ begins_allowed : (b : BodyKind) (before : Option ℕ) (ps : List Packet) (qs : L
     → (here : Position) × (n place : ℕ) × Reached (starts b before) 0 0 ps here n place
 begins_allowed b before ps qs bytes (r, _, (all, bytes', whole)) few =
     let (more, split) = first_packets ps qs r all bytes bytes' in
-    let (end, goes, done) = body_ends b before (ps ++ more) (subst (Body b before) split whole) in
+    let (end, goes, done) = body_ends b before (ps ++ more) (rw split at whole) in
     begins_reached (starts b before) 0 0 ps more end (omega arith) goes
 
+-- the two laws, from what a body begins with
 pub faults_exactly_where_no_body_goes_on : FaultsExactlyWhereNoBodyGoesOn
 faults_exactly_where_no_body_goes_on b before ps qs p payload ws rest e bytes begins few laid small =
     let (here, n, place, way) = begins_allowed b before ps qs bytes begins few in
