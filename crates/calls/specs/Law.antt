@@ -45,12 +45,13 @@ shown (answer.Event e) rest = 0
 shown (answer.End place) rest = length rest
 shown (answer.Failed f) rest = shown_by f.fault rest
 
--- whether the last answer tells the ending: the clean end, EndsEarly and CarrierBroke do
+-- whether a fault tells the ending
 abbrev pub fault_tells : StepFault → Bool
 fault_tells (fault.Packet f) = false
 fault_tells fault.EndsEarly = true
 fault_tells (fault.CarrierBroke f) = true
 
+-- whether the last answer tells the ending: the clean end, EndsEarly and CarrierBroke do
 abbrev pub tells_ending : Answer → Bool
 tells_ending (answer.Event e) = false
 tells_ending (answer.End place) = true

@@ -17,8 +17,8 @@ use Rattle.packet.specs.Judging.{stopped}
 use Rattle.bodies.specs.Told.{events, in_force, bytes_of, told_behind}
 use Rattle.receiver.specs.declared.answers.Answer.{Answer}
 use Rattle.receiver.specs.declared.answers.Answer.TheVariants as answer
-use Rattle.receiver.specs.declared.answers.StepRefusal.TheVariants as step-refusal
-use Rattle.receiver.specs.declared.answers.PassRefusal.TheVariants as pass-refusal
+use Rattle.receiver.specs.declared.answers.StepRefusal.TheVariants as step_refusal
+use Rattle.receiver.specs.declared.answers.PassRefusal.TheVariants as pass_refusal
 use Rattle.receiver.specs.Draws.{front, laid_over}
 use Rattle.receiver.specs.Steps.{work_length}
 use Rattle.runs.specs.Answers.{answers}
@@ -103,7 +103,7 @@ pub data Told (now : Option ℕ) (last : Answer) (body rest : List ℕ) : (done 
   step_refused : {done todo read : List Packet} {over ended : Bool} {w x : List ℕ} {cs : List Call} {rs : List Reply} {n : ℕ}
       → TooFew n w
       → Told now last body rest done todo over w cs rs read ended x
-      → Told now last body rest done todo over w (call.Step n ∷ cs) (reply.Step (Err step-refusal.ShortWorkBuffer) ∷ rs) read ended x
+      → Told now last body rest done todo over w (call.Step n ∷ cs) (reply.Step (Err step_refusal.ShortWorkBuffer) ∷ rs) read ended x
   packet_told : {done todo read : List Packet} {ended : Bool} {w x : List ℕ} {cs : List Call} {rs : List Reply} {n : ℕ} {p : Packet}
       → Enough n w
       → Told now last body rest (done ++ (p ∷ [])) todo false (lent n (laid_over (payload_behind body done p)) w) cs rs read ended x
@@ -115,12 +115,12 @@ pub data Told (now : Option ℕ) (last : Answer) (body rest : List ℕ) : (done 
   pass_refused : {done todo read : List Packet} {over ended : Bool} {w x : List ℕ} {cs : List Call} {rs : List Reply} {n : ℕ}
       → TooFew n w
       → Told now last body rest done todo over w cs rs read ended x
-      → Told now last body rest done todo over w (call.Pass n ∷ cs) (reply.Pass (Err pass-refusal.ShortWorkBuffer) ∷ rs) read ended x
+      → Told now last body rest done todo over w (call.Pass n ∷ cs) (reply.Pass (Err pass_refusal.ShortWorkBuffer) ∷ rs) read ended x
   pass_without_header : {done todo read : List Packet} {over ended : Bool} {w x : List ℕ} {cs : List Call} {rs : List Reply} {n : ℕ}
       → Enough n w
       → passable now last done over ≡ false
       → Told now last body rest done todo over w cs rs read ended x
-      → Told now last body rest done todo over w (call.Pass n ∷ cs) (reply.Pass (Err pass-refusal.NoHeaderInForce) ∷ rs) read ended x
+      → Told now last body rest done todo over w (call.Pass n ∷ cs) (reply.Pass (Err pass_refusal.NoHeaderInForce) ∷ rs) read ended x
   passed_to_packet : {done todo read : List Packet} {over ended : Bool} {w x : List ℕ} {cs : List Call} {rs : List Reply} {n : ℕ} (passed left : List Packet) (p : Packet)
       → Enough n w
       → passable now last done over ≡ true

@@ -32,7 +32,7 @@ pub struct NoMemory<C> {
     pub carrier: C,
 }
 
-// Makes the same calls on a new receiver over each of two carriers. Its contract is the law of runs.
+// Makes the same calls on a new receiver over each of two carriers, which are of two types. Its contract is the law of runs.
 pub fn run_alike<C: Carrier, D: Carrier>(
     heap: Global,
     left: C,

@@ -6,7 +6,7 @@ ghost use Rattle.calls.specs.Calling.{called};
 use carrier::Carrier;
 use receiver::{Answer, PassRefusal, Passed, Receiver, StepRefusal};
 
-// A call, with the length of the buffer that it is lent.
+// A call, with the length of the buffer that it is lent: no struct of a kind and a length, since each call is read by its case.
 #[derive(Clone, Copy)]
 pub enum Call {
     Step(usize),
@@ -31,11 +31,9 @@ pub(crate) fn make_call<C: Carrier>(
     ensures buffer { work.new ≡ (called (view C.Carrier receiver.old) work.old call).buffer }
     ensures moved { let made = called (view C.Carrier receiver.old) work.old call in Moved C.Carrier receiver.old made.standing made.usage receiver.new }
 {
-    let (Call::Step(length) | Call::Pass(length)) = call;
-    let room = length.min(work.len());
-    let front = &mut work[..room];
+    let room = work.len();
     match call {
-        Call::Step(_) => Reply::Step(receiver.step(front)),
-        Call::Pass(_) => Reply::Pass(receiver.pass(front)),
+        Call::Step(length) => Reply::Step(receiver.step(&mut work[..length.min(room)])),
+        Call::Pass(length) => Reply::Pass(receiver.pass(&mut work[..length.min(room)])),
     }
 }
