@@ -2,12 +2,12 @@
 // Play body, one line for each answer.
 #![tactic(auto)]
 
-use listing::list_capture;
+use listing::{MOST_INPUT, list_capture};
 use std::io;
 use std::io::{Read, Write};
 
 // One byte more than the longest input, so that a longer one is seen to be too long.
-const READ_AT_MOST: u64 = 65_537;
+const READ_AT_MOST: u64 = MOST_INPUT as u64 + 1;
 
 fn main(rt: HostRuntime) -> io::Result<()> {
     let heap = rt.alloc();

@@ -56,6 +56,10 @@ line_of (answer.Event e) = event_line_of e
 line_of (answer.End place) = row (codes ".") (decimal place ∷ [])
 line_of (answer.Failed f) = failure_line_of f
 
+-- the line for what is refused, by its number
+abbrev pub refusal_line_of : ℕ → List ℕ
+refusal_line_of n = row (codes "?") (decimal n ∷ [])
+
 -- the line for a refused capture
 abbrev pub refused_line_of : CaptureRefusal → List ℕ
-refused_line_of r = row (codes "?") (decimal (refusal_number r) ∷ [])
+refused_line_of r = refusal_line_of (refusal_number r)

@@ -5,4 +5,4 @@ mod lines;
 mod listings;
 
 pub use lines::{AnswerLine, RefusalLine, line, refused_line};
-pub use listings::{list_body, list_capture};
+pub use listings::{MOST_INPUT, list_body, list_capture};

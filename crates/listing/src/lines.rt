@@ -1,6 +1,7 @@
-// One line for each answer: its fields in order, one space between two, and a line feed.
+// One line for each answer: its fields in order, one space between two, and a line feed. Contracts tell the bytes of a text in the
+// library's words, `IfOk` and `string_bytes`; a word of our own would say no more.
 ghost use Rattle.std.specs.Prelude.{◌≡◌, ◌<◌, [], ◌∷◌, Some, IfOk, string_bytes};
-ghost use Rattle.listing.specs.Lines.{letter_text, event_line_of, failure_line_of, line_of, refused_line_of};
+ghost use Rattle.listing.specs.Lines.{letter_text, event_line_of, failure_line_of, line_of, refusal_line_of, refused_line_of};
 ghost use Rattle.listing.specs.Samples.{SampleLines};
 
 use capture::CaptureRefusal;
@@ -95,15 +96,15 @@ impl fmt::Display for FailureLine {
     }
 }
 
-// The line for a capture that is refused.
+// The line for what is refused, by its number, since refusals of several types have such a line.
 #[derive(Clone, Copy)]
-pub struct RefusalLine(pub CaptureRefusal);
+pub struct RefusalLine(pub u8);
 
 impl fmt::Display for RefusalLine {
-    ghost output = { λ l. Some (refused_line_of l.0) };
+    ghost output = { λ l. Some (refusal_line_of l.0) };
 
     fn fmt<W: fmt::Write>(&self, f: &mut fmt::Formatter<W>) -> fmt::Result {
-        let number = u8::from(self.0);
+        let number = self.0;
         writeln!(f, "? {number}")
     }
 }
@@ -116,9 +117,9 @@ pub fn line(heap: Global, answer: Answer) -> Result<String, AllocError>
     AnswerLine(answer).to_string(heap)
 }
 
-// The line for a capture that is refused, as text.
+// The line for a capture that is refused, as text. A function beside `line`, since each promises a line of its own.
 pub fn refused_line(heap: Global, refusal: CaptureRefusal) -> Result<String, AllocError>
     ensures { IfOk result (λ t. string_bytes t ≡ refused_line_of refusal) }
 {
-    RefusalLine(refusal).to_string(heap)
+    RefusalLine(u8::from(refusal)).to_string(heap)
 }

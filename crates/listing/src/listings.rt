@@ -14,9 +14,9 @@ use std::alloc::{AllocError, Global};
 use std::fmt::Write;
 
 // The longest input that is read as a capture.
-const MOST_INPUT: usize = 65_536;
+pub const MOST_INPUT: usize = 65_536;
 
-// The lines of the answers to come.
+// The lines of the answers to come. A loop of its own, as each reader of answers has: what is done with one may fail.
 fn list_answers<C: Carrier>(
     heap: Global,
     receiver: &mut Receiver<C>,
@@ -52,7 +52,8 @@ pub fn list_body<C: Carrier + Drop>(
     text
 }
 
-// The lines of a captured connection, read as a Play body; or the line of its refusal.
+// The lines of a captured connection, read as a Play body; or the line of its refusal. Apart from `list_capture`, whose laws
+// would be shown again at each return.
 fn capture_text(heap: Global, input: &[u8]) -> Result<String, AllocError>
     ensures { IfOk result (λ t. string_bytes t ≡ listed input.now) }
 {
