@@ -85,9 +85,8 @@ impl Checksum {
     }
 }
 
-// Steps to the end or the fault; no Step is refused, since the one caller has tested the work buffer's length.
-// Without that each clause would tell the case of a short buffer too. An array in place of the slice would be the front of
-// the caller's buffer alone, and the caller's clauses speak of all of it.
+// Steps to the end or the fault; the one caller has tested the work buffer's length. A loop of its own, since a payload is read out of
+// the work buffer that the next Step is lent. A slice, as Step is lent one.
 fn receive_body<C: Carrier>(receiver: &mut Receiver<C>, work: &mut [u8]) -> Checksum
     requires { 65535 ≤ length work.old }
     ensures sum { result.0 ≡ (reads_from (view C.Carrier receiver.old) work.old 1).sum }

@@ -1,5 +1,5 @@
 // What callers in C or Rust link to: the functions of `exported` under their names, by C's calling convention. A slice
-// passes as its pointer and its length.
+// passes as its pointer and its length. The clauses are said again, since these contracts are what such a caller reads.
 #![tactic(auto)]
 
 ghost use Rattle.std.specs.Prelude.{◌≡◌};
