@@ -2,7 +2,7 @@
 use super::running::Trial;
 use anyhow::bail;
 use carrier::{Carrier, Image};
-use listing::line;
+use listing::{RefusalLine, line};
 use packet::BodyKind;
 use receiver::{Passed, Receiver, Ticket, WORK_LENGTH, close, open};
 use std::alloc::{AllocError, Global};
@@ -20,10 +20,7 @@ pub fn outcome_line<T, E: Into<u8>, F: FnOnce(T) -> Result<String, AllocError>>(
 {
     match outcome {
         Ok(value) => line_of(value),
-        Err(refusal) => {
-            let number: u8 = refusal.into();
-            format!(in heap; "? {number}\n")
-        }
+        Err(refusal) => RefusalLine(refusal.into()).to_string(heap),
     }
 }
 
@@ -51,6 +48,7 @@ fn call_lines<C: Carrier>(
     calls: &str,
 ) -> anyhow::Result<String> {
     let mut work = vec![in heap; 0; WORK_LENGTH]?;
+    // a buffer of its own: that the front of `work` lies in it was tried, and the check ran out of memory
     let mut short = vec![in heap; 0; WORK_LENGTH - 1]?;
     let mut text = String::new(heap);
     let step_line = |outcome| outcome_line(heap, outcome, |answer| line(heap, answer));

@@ -1,14 +1,12 @@
 // A case: which layers stand over what is given, and how the body that they give is read.
 use packet::BodyKind;
 use std::num::ParseIntError;
-use std::str::FromStr;
+use std::str::{FromStr, SplitN};
 use thiserror::Error;
 
 // Why a text is no case.
 #[derive(Debug, Drop, Error)]
 pub enum CaseError {
-    #[error("a column is missing")]
-    MissingColumn,
     #[error("an unknown body")]
     UnknownBody,
     #[error("an unknown stack")]
@@ -62,24 +60,26 @@ pub enum Stack {
     ChunkOverChunk,
 }
 
-// The names of the layers, and the length, which counts only where there is a length layer.
-impl TryFrom<(&str, u64)> for Stack {
+// The names of the layers, and the length, which counts only where there is a length layer; the names are looked at first.
+impl TryFrom<(&str, &str)> for Stack {
     type Error = CaseError;
 
-    fn try_from((names, length): (&str, u64)) -> Result<Stack, CaseError> {
-        match names {
-            "bare" => Ok(Stack::Bare),
-            "chunk" => Ok(Stack::Chunk),
-            "length" => Ok(Stack::Length(length)),
-            "leftover" => Ok(Stack::Leftover),
-            "chunk/length" => Ok(Stack::ChunkOverLength(length)),
-            "length/chunk" => Ok(Stack::LengthOverChunk(length)),
-            "leftover/chunk" => Ok(Stack::LeftoverOverChunk),
-            "leftover/length" => Ok(Stack::LeftoverOverLength(length)),
-            "chunk/leftover" => Ok(Stack::ChunkOverLeftover),
-            "chunk/chunk" => Ok(Stack::ChunkOverChunk),
-            _ => Err(CaseError::UnknownStack),
-        }
+    fn try_from((names, length): (&str, &str)) -> Result<Stack, CaseError> {
+        let length = length.parse::<u64>();
+        let stack = match names {
+            "bare" => length.map(|_| Stack::Bare),
+            "chunk" => length.map(|_| Stack::Chunk),
+            "length" => length.map(Stack::Length),
+            "leftover" => length.map(|_| Stack::Leftover),
+            "chunk/length" => length.map(Stack::ChunkOverLength),
+            "length/chunk" => length.map(Stack::LengthOverChunk),
+            "leftover/chunk" => length.map(|_| Stack::LeftoverOverChunk),
+            "leftover/length" => length.map(Stack::LeftoverOverLength),
+            "chunk/leftover" => length.map(|_| Stack::ChunkOverLeftover),
+            "chunk/chunk" => length.map(|_| Stack::ChunkOverChunk),
+            _ => return Err(CaseError::UnknownStack),
+        };
+        Ok(stack?)
     }
 }
 
@@ -104,31 +104,31 @@ impl FromStr for Above {
     }
 }
 
-// How the connection ends behind the bytes.
+// How the connection ends behind the bytes. A carrier's `Ending` would ask for the fault, which a capture makes.
 #[derive(Clone, Copy)]
-pub enum Ending {
+pub enum Disconnect {
     Clean,
     Broken,
 }
 
-impl FromStr for Ending {
+impl FromStr for Disconnect {
     type Err = CaseError;
 
-    fn from_str(name: &str) -> Result<Ending, CaseError> {
+    fn from_str(name: &str) -> Result<Disconnect, CaseError> {
         match name {
-            "clean" => Ok(Ending::Clean),
-            "broken" => Ok(Ending::Broken),
+            "clean" => Ok(Disconnect::Clean),
+            "broken" => Ok(Disconnect::Broken),
             _ => Err(CaseError::UnknownEnding),
         }
     }
 }
 
 // The byte that tells it in a capture.
-impl From<Ending> for u8 {
-    fn from(ending: Ending) -> u8 {
+impl From<Disconnect> for u8 {
+    fn from(ending: Disconnect) -> u8 {
         match ending {
-            Ending::Clean => 0,
-            Ending::Broken => 1,
+            Disconnect::Clean => 0,
+            Disconnect::Broken => 1,
         }
     }
 }
@@ -140,7 +140,7 @@ pub struct Case<'a> {
     pub before: Option<u8>,
     pub stack: Stack,
     pub above: Above,
-    pub ending: Ending,
+    pub ending: Disconnect,
     // the bytes, in words
     pub words: &'a str,
 }
@@ -163,21 +163,30 @@ fn before_named(name: &str) -> Result<Option<u8>, CaseError> {
     }
 }
 
-// A case written as `WANTED BODY BEFORE STACK LENGTH ABOVE ENDING WORDS..`, where the words may be left out.
+// The columns of a text, from the left. One that is missing is empty; the eighth holds all words.
+#[derive(Drop)]
+struct Columns<'a>(SplitN<'a, char>);
+
+impl<'a> Columns<'a> {
+    fn take(&mut self) -> &'a str {
+        self.0.next().unwrap_or("")
+    }
+}
+
+// A case written as `WANTED BODY BEFORE STACK LENGTH ABOVE ENDING WORDS..`.
 impl<'a> TryFrom<&'a str> for Case<'a> {
     type Error = CaseError;
 
     fn try_from(text: &'a str) -> Result<Case<'a>, CaseError> {
-        let mut columns = text.splitn(8, ' ');
-        let mut column = || columns.next().ok_or(CaseError::MissingColumn);
+        let mut columns = Columns(text.splitn(8, ' '));
         Ok(Case {
-            wanted: Wanted::from(column()?),
-            body: body_named(column()?)?,
-            before: before_named(column()?)?,
-            stack: Stack::try_from((column()?, column()?.parse::<u64>()?))?,
-            above: column()?.parse::<Above>()?,
-            ending: column()?.parse::<Ending>()?,
-            words: column().unwrap_or(""),
+            wanted: Wanted::from(columns.take()),
+            body: body_named(columns.take())?,
+            before: before_named(columns.take())?,
+            stack: Stack::try_from((columns.take(), columns.take()))?,
+            above: columns.take().parse::<Above>()?,
+            ending: columns.take().parse::<Disconnect>()?,
+            words: columns.take(),
         })
     }
 }

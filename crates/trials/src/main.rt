@@ -25,6 +25,7 @@ fn record_of_line(heap: Global, text: &str) -> anyhow::Result<String> {
         return Ok(String::new(heap));
     }
     let (name, words) = text.split_once(' ').unwrap_or((text, ""));
+    // each name is one call, and a table of functions would be longer
     match name {
         "capture" => capture_record(heap, words),
         "load" => load_record(heap, words),
@@ -43,7 +44,7 @@ fn print_records(rt: &HostRuntime, table: &str) -> anyhow::Result<()> {
 }
 
 fn main(rt: HostRuntime) -> anyhow::Result<()> {
-    let mut table = String::new(rt.alloc());
-    rt.stdin().take(LONGEST_TABLE).read_to_string(&mut table)?;
-    print_records(&rt, &table)
+    let mut input = Vec::new(rt.alloc());
+    rt.stdin().take(LONGEST_TABLE).read_to_end(&mut input)?;
+    print_records(&rt, std::str::from_utf8(&input)?)
 }

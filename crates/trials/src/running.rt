@@ -1,5 +1,5 @@
 // The record of a case: what comes of it from an image, and from captures cut into pieces.
-use super::cases::{Case, Ending, Wanted};
+use super::cases::{Case, Disconnect, Wanted};
 use super::words::{Given, push_number};
 use anyhow::anyhow;
 use capture::Capture;
@@ -30,7 +30,7 @@ impl Cut {
 }
 
 // The capture of these bytes.
-fn recorded(heap: Global, bytes: &[u8], cut: Cut, ending: Ending) -> anyhow::Result<Vec<u8>> {
+fn recorded(heap: Global, bytes: &[u8], cut: Cut, ending: Disconnect) -> anyhow::Result<Vec<u8>> {
     let count = u32::try_from(bytes.len())?;
     let pieces = cut.pieces(heap, count)?;
     let mut record = Vec::new(heap);
@@ -78,8 +78,8 @@ impl<'a> Trial<'a> {
     // What comes of the case from one piece: an image where the ending is clean.
     fn read_one_piece(&self) -> anyhow::Result<String> {
         match self.case.ending {
-            Ending::Clean => self.read_stack(Image::new(&self.given.bytes)),
-            Ending::Broken => self.read_capture(Cut::Whole),
+            Disconnect::Clean => self.read_stack(Image::new(&self.given.bytes)),
+            Disconnect::Broken => self.read_capture(Cut::Whole),
         }
     }
 

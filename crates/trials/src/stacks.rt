@@ -8,7 +8,7 @@ use layers::{Leftover, Length};
 use listing::list_body;
 
 impl Trial<'_> {
-    // Reads the body that a carrier gives.
+    // Reads the body that a carrier gives: by the calls of the case, or to its end.
     fn read<C: Carrier + Drop>(&self, carrier: C) -> anyhow::Result<String> {
         match self.case.wanted {
             Wanted::Calls(calls) => self.answers(carrier, calls),
@@ -21,7 +21,7 @@ impl Trial<'_> {
         }
     }
 
-    // Puts the empty layers above.
+    // Puts the empty layers above: an arm for each count, which makes another type.
     fn read_above<C: Carrier + Drop>(&self, carrier: C) -> anyhow::Result<String> {
         match self.case.above {
             Above::Nothing => self.read(carrier),
@@ -39,7 +39,8 @@ impl Trial<'_> {
         Ok(leftover)
     }
 
-    // Puts the layers of the case over the lowest carrier.
+    // Puts the layers of the case over the lowest carrier: an arm for each stack, since each is a type of its own, and a function
+    // that made a boxed carrier of any of them could not hand it out.
     pub fn read_stack<C: Carrier + Drop>(&self, lowest: C) -> anyhow::Result<String> {
         match self.case.stack {
             Stack::Bare => self.read_above(lowest),

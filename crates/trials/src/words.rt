@@ -24,7 +24,7 @@ pub enum WordError {
     BadNumber(#[from] ParseIntError),
 }
 
-// The numbers behind a word's name; those that are left out are 0.
+// The numbers behind a word's name; those that are left out are 0. An array, since no word has more and each reads its own.
 #[derive(Clone, Copy)]
 struct Numbers([u32; 4]);
 
@@ -44,7 +44,7 @@ impl FromStr for Numbers {
     }
 }
 
-// What a word says.
+// What a word says. A letter is its byte, as it goes onto the wire.
 #[derive(Clone, Copy)]
 enum Word<'a> {
     // a packet by its letter, with LocationId, Incarnation, AFFlags and how long the payload is
@@ -96,7 +96,7 @@ fn numbered<'a>(name: &str, numbers: Numbers) -> Result<Word<'a>, WordError> {
     }
 }
 
-// The lowest byte of a number.
+// The lowest byte of a number; the others fall away, which `try_from` would refuse.
 fn low_byte(number: u32) -> u8 {
     (number & 0xff) as u8
 }
@@ -175,7 +175,7 @@ fn chunked(heap: Global, body: &[u8], size: usize) -> anyhow::Result<Vec<u8>> {
 // What a case is given.
 #[derive(Drop)]
 pub struct Given {
-    // what the leftover layer is loaded with
+    // what the leftover layer is loaded with, empty where no word is `loaded`: an empty load leaves the layer as it is
     pub loaded: Vec<u8>,
     // what the lowest carrier gives
     pub bytes: Vec<u8>,
