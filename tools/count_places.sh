@@ -4,6 +4,10 @@
 cd "$(dirname "$0")/.." || exit 1
 sources=(crates/*/src/*.rt)
 answers() { find crates/*/proofs -name Answers.antt; }
+# names with a type and a body of their own, at any depth, in proofs that are no answers
+lemmas() {
+    awk 'FNR==1{split("",s);split("",d)} {match($0,/^ */); k=RLENGTH; l=substr($0,k+1); m=l; sub(/^(abbrev |unfoldable )*(pub )?/,"",m); split(m,a," ")} m ~ /^[^ (){},=;]+ : / {s[a[1]]=FNR; d[a[1]]=k; next} (a[1] in s)&&d[a[1]]==k&&(l ~ / = / || l ~ / =$/){print FILENAME":"s[a[1]]":"a[1]; delete s[a[1]]}' crates/*/proofs/*.antt
+}
 
 point() {
     case $1 in
@@ -32,5 +36,6 @@ case ${1:-} in
 *)
     for n in 1 2 3 4 5 6 7 8; do echo "$n $(point "$n" | wc -l)"; done
     echo "lines: $(cat "${sources[@]}" | wc -l) in src, $(cat crates/*/specs/*.antt | wc -l) in specs, $(cat $(find crates/*/proofs -name '*.antt') | wc -l) in proofs"
+    echo "lemmas: $(lemmas | wc -l)"
     ;;
 esac
