@@ -19,7 +19,7 @@ pub use sections::{CaptureCause, CaptureRefusal};
 // A capture that was checked, and what of it is still to come.
 #[derive(Drop)]
 pub struct Capture<'a> {
-    // the lengths of the pieces not begun, four bytes each as they are written
+    // the lengths of the pieces not begun, four bytes each: as they are written, which is what the definitions speak of
     lengths: &'a [u8],
     // what is left of the piece being handed out, 0 where none is: no piece is empty
     left: u32,

@@ -27,7 +27,7 @@ pub trait Carrier {
     ghost lacks: { Self → ℕ → Bool → Self → Type 0 };
 
     // Puts some of the bytes to come at the front of `out`, and answers how many; or tells the ending where none are to come.
-    // Each carrier answers an empty `out` itself: a provided method over one for the rest would be two where callers know one.
+    // An empty `out` is answered by each carrier or left to what is beneath: a provided method over another would be two for one.
     fn pull(&mut self, out: &mut [u8]) -> Result<usize, Ending>
         ensures answers { Answers (coming self.old) (ending self.old) out.old result (coming self.new) (ending self.new) out.new }
         ensures lacks { lacks self.old (given result) (told result) self.new };

@@ -33,7 +33,7 @@ impl<C: Carrier> Chunks<C> {
         Ok(n)
     }
 
-    // A single byte of them. What is told of the carrier beneath is handed to a definition member by member, as the trait has them.
+    // A single byte of them. The members of what is beneath come one by one, as to `data_coming` and `data_lacks`.
     fn draw_byte(&mut self) -> Result<u8, Ending>
         ensures { Drew C.Carrier.coming C.Carrier.ending C.Carrier.lacks self.old self.new result }
     {

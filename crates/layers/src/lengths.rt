@@ -60,7 +60,7 @@ impl<C: Carrier> Carrier for Length<C> {
             .beneath
             .pull(&mut out[..most])
             .map_err(|ending| ending.too_early(early))?;
-        // counted as the chunk layer does; one function for both would need a trait for what layers hold
+        // counted as the chunk layer does; one function for both would take carrier, count, fault and `out`, for two lines
         self.left -= n as u64;
         self.drawn = self.drawn.saturating_add(n as u64);
         Ok(n)

@@ -77,6 +77,7 @@ fn draw_rest<C: Carrier>(
     fill(carrier, &mut bytes[..fixed]).map_err(|short| cut_short(4, short))?;
     let payload = usize::from(head.length) - fixed;
     fill(carrier, &mut work[..payload]).map_err(|short| cut_short(4 + fixed, short))?;
+    // field by field, since a `Packet` has no `Head` within
     Ok(Packet {
         kind: head.kind,
         length: head.length,

@@ -54,7 +54,7 @@ pub fn open<C: Carrier>(
 
 impl<C: Carrier> Receiver<C> {
     // Reads one packet, its payload to the front of `work`; or tells the end, or a fault.
-    // Each call lays another thing over the buffer, so that only the word `laid_over` is common to their clauses.
+    // What Step and `advance` lay over the buffer differs, so that their clauses share the word `laid_over` alone.
     pub fn step(&mut self, work: &mut [u8]) -> Result<Answer, StepRefusal>
         ensures answer { result ≡ stepped (view C.Carrier self.old) (length work.old) }
         ensures buffer { work.new ≡ laid_over (step_front (view C.Carrier self.old) (length work.old)) work.old }

@@ -8,8 +8,9 @@ use layers::{Leftover, Length};
 use listing::list_body;
 
 impl Trial<'_> {
-    // Reads the body that a carrier gives: by the calls of the case, or to its end.
+    // Reads the body that a carrier gives.
     fn read<C: Carrier + Drop>(&self, carrier: C) -> anyhow::Result<String> {
+        // an arm for each reader: the calls that the case lists, or the listing
         match self.case.wanted {
             Wanted::Calls(calls) => self.answers(carrier, calls),
             Wanted::Every | Wanted::Once | Wanted::Tail => Ok(list_body(
