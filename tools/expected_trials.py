@@ -3,8 +3,9 @@
 
     tools/expected_trials.py < crates/trials/stdin > crates/trials/stdout
 
-A carrier is its meaning, a pair of bytes and ending; an ending is None where it is clean, else (cause, place, depth).
-A layer makes such a pair of another. In how many pieces bytes come has no meaning, so every cut gives the same.
+A carrier is its meaning: bytes, ending, and how many bytes of the lowest carrier are used once it gave n and told its ending
+or not. An ending is None where it is clean, else (cause, place, depth). A layer makes such a triple of another. In how many
+pieces bytes come has no meaning, so every cut gives the same.
 """
 import sys
 
@@ -69,20 +70,24 @@ def given_by(words):
 # --- layers ---
 
 
+def lowest(data, ending):
+    return data, ending, lambda n, told: n
+
+
 def passed_on(ending):
     return ending and (ending[0], ending[1], min(ending[2] + 1, 255))
 
 
 def leftover(carrier, loaded=b""):
-    data, ending = carrier
-    return loaded + data, passed_on(ending)
+    data, ending, used = carrier
+    return loaded + data, passed_on(ending), lambda n, told: used(max(n - len(loaded), 0), told)
 
 
 def length(carrier, count):
-    data, ending = carrier
+    data, ending, used = carrier
     if len(data) >= count:
-        return data[:count], None
-    return data, passed_on(ending) or (6, len(data), 0)
+        return data[:count], None, lambda n, told: used(n, False)
+    return data, passed_on(ending) or (6, len(data), 0), used
 
 
 class Stop(Exception):
@@ -90,15 +95,18 @@ class Stop(Exception):
 
 
 def chunk(carrier):
-    data, ending = carrier
+    data, ending, used = carrier
     at, out = 0, bytearray()
+    behind = [0]  # how many bytes are drawn behind each data byte
+    ran_out = False
 
     def fault(cause):
         raise Stop((cause, at, 0))
 
     def take():
-        nonlocal at
+        nonlocal at, ran_out
         if at == len(data):
+            ran_out = True
             raise Stop(passed_on(ending) or (6, at, 0))
         at += 1
         return data[at - 1 : at]
@@ -128,16 +136,18 @@ def chunk(carrier):
                 fault(5)
             seen += take()
 
+    found = None
     try:
         while (size := size_line()) > 0:
             for _ in range(size):
                 out += take()
+                behind.append(at)
             if take() != b"\r" or take() != b"\n":
                 fault(4)
         trailer()
     except Stop as stop:
-        return bytes(out), stop.args[0]
-    return bytes(out), None
+        found = stop.args[0]
+    return bytes(out), found, lambda n, told: used(at, ran_out) if told else used(behind[n], False)
 
 
 def stacked(stack, count, above, loaded, carrier):
@@ -182,8 +192,9 @@ def number(data):
 
 class Receiver:
     def __init__(self, carrier, body, before):
-        self.data, self.ending = carrier
+        self.data, self.ending, self.used_of_lowest = carrier
         self.place = self.entry = 0
+        self.drawn, self.told = 0, False  # how much of the carrier is used
         self.last = None  # the end or fault that was answered
         self.failed = False
         self.work = bytes(65535)
@@ -213,7 +224,11 @@ class Receiver:
     def has_header(self):
         return not self.failed and self.at in IN_FORCE
 
+    def used(self):
+        return self.used_of_lowest(self.drawn, self.told)
+
     def cut_short(self):
+        self.drawn, self.told = len(self.data), True
         if self.ending:
             return "! 29 %d %d %d %d" % (len(self.data), *self.ending)
         if self.place == len(self.data) and POSITIONS[self.at][3]:
@@ -224,6 +239,7 @@ class Receiver:
         head = self.data[self.place : self.place + 4]
         if len(head) < 4:
             return self.cut_short()
+        self.drawn = self.place + 4
         kind, count = chr(head[1]), number(head[2:])
         if head[0] != 0x24:
             return "! 21 %d" % self.place
@@ -236,6 +252,7 @@ class Receiver:
         self.work = front + self.work[len(front) :]
         if len(rest) < count:
             return self.cut_short()
+        self.drawn = self.place + 4 + count
         return self.judge(kind, count, rest)
 
     def judge(self, kind, count, rest):
@@ -295,7 +312,7 @@ def listing(receiver):
 
 
 def answers_to(receiver, calls):
-    for call in calls:
+    for call in calls.strip("-"):
         if call in "SP":
             yield "? 11"
         elif call == "s":
@@ -336,7 +353,7 @@ def captured(data):
         return 63
     if endings not in (b"\0", b"\1"):
         return 64
-    return body, (7, len(body), 0) if endings == b"\1" else None
+    return lowest(body, (7, len(body), 0) if endings == b"\1" else None)
 
 
 def capture_record(words):
@@ -363,7 +380,24 @@ def load_record(words):
 # --- the table ---
 
 
+def opened(reading, loaded, beneath):
+    _, body, before, stack, count, above = reading
+    carrier = stacked(stack, int(count), int(above), loaded, beneath)
+    return Receiver(carrier, body, None if before == "-" else int(before))
+
+
+def bodies(readings, loaded, data, ending):
+    """The answers of bodies one behind the other, and what is left of the lowest carrier."""
+    for reading in readings:
+        receiver = opened(reading, loaded, lowest(data, ending))
+        yield from answers_to(receiver, reading[0])
+        data = data[receiver.used() :]
+    yield "beneath x.%s %s" % (data.hex(), "broken %d %d %d" % ending if ending else "clean")
+    yield "= all cuts"
+
+
 def record(line):
+    line, *behind = line.split(" | ")
     words = line.split()
     if not words or line.startswith("#"):
         return []
@@ -373,19 +407,17 @@ def record(line):
         return load_record(words[1:])
     if words[0] == "tickets":
         return ["reusable" if words[1] == words[2] else "not reusable"] * 2
-    wanted, body, before, stack, count, above, ending = words[:7]
+    first, wanted = words[:6], words[0]
     loaded, data = given_by(words[7:])
-    lowest = data, (7, len(data), 0) if ending == "broken" else None
-    carrier = stacked(stack, int(count), int(above), loaded, lowest)
-    receiver = Receiver(carrier, body, None if before == "-" else int(before))
+    ending = (7, len(data), 0) if words[6] == "broken" else None
+    if wanted not in ("every", "once", "tail"):
+        return bodies([first] + [reading.split() for reading in behind], loaded, data, ending)
+    lines = listing(opened(first, loaded, lowest(data, ending)))
     if wanted == "every":
-        return listing(receiver) + ["= all cuts"]
-    if wanted == "once":
-        return listing(receiver)
+        return lines + ["= all cuts"]
     if wanted == "tail":
-        lines = listing(receiver)
         return ["%d lines, the last %s" % (len(lines), lines[-1])]
-    return answers_to(receiver, wanted)
+    return lines
 
 
 for line in sys.stdin.read().splitlines():

@@ -1,10 +1,11 @@
 // The answers to single calls of a receiver, one line each.
-use super::running::Trial;
+use super::cases::Reading;
+use super::told::Told;
 use anyhow::bail;
 use carrier::{Carrier, Image};
 use listing::{RefusalLine, line};
 use packet::BodyKind;
-use receiver::{Passed, Receiver, Ticket, WORK_LENGTH, close, open};
+use receiver::{Closed, Passed, Receiver, Ticket, WORK_LENGTH, close, open};
 use std::alloc::{AllocError, Global};
 
 // How many bytes of the work buffer are shown.
@@ -68,24 +69,32 @@ fn call_lines<C: Carrier>(
     Ok(text)
 }
 
-// Closes a body, and says whether its carrier may be read on.
-fn close_line<C: Carrier + Drop>(receiver: Receiver<C>, ticket: Ticket) -> &'static str {
-    if close(receiver, ticket).reusable {
+// Whether the carrier of a closed body may be read on.
+fn reusable_line(reusable: bool) -> &'static str {
+    if reusable {
         "reusable\n"
     } else {
         "not reusable\n"
     }
 }
 
-impl Trial<'_> {
+impl Reading<'_> {
     // Opens the body, makes the calls and closes it.
-    pub fn answers<C: Carrier + Drop>(&self, carrier: C, calls: &str) -> anyhow::Result<String> {
-        let (mut receiver, ticket) = open(carrier, self.case.body, 0, self.case.before);
-        let lines = call_lines(self.heap, &mut receiver, calls);
-        let last = close_line(receiver, ticket);
+    pub fn answers<C: Carrier + Drop>(
+        &self,
+        heap: Global,
+        carrier: C,
+        calls: &str,
+    ) -> anyhow::Result<Told<C>> {
+        let (mut receiver, ticket) = open(carrier, self.body, 0, self.before);
+        let lines = call_lines(heap, &mut receiver, calls);
+        let Closed { carrier, reusable } = close(receiver, ticket);
         let mut text = lines?;
-        text.push_str(last)?;
-        Ok(text)
+        text.push_str(reusable_line(reusable))?;
+        Ok(Told {
+            text,
+            left: Some(carrier),
+        })
     }
 }
 
@@ -104,7 +113,7 @@ pub fn tickets_record(heap: Global, words: &str) -> anyhow::Result<String> {
     let mut work = vec![in heap; 0; WORK_LENGTH]?;
     let (first, first_ticket) = read_empty(one, &mut work);
     let (second, second_ticket) = read_empty(other, &mut work);
-    let first_line = close_line(first, second_ticket);
-    let second_line = close_line(second, first_ticket);
+    let first_line = reusable_line(close(first, second_ticket).reusable);
+    let second_line = reusable_line(close(second, first_ticket).reusable);
     Ok(format!(in heap; "{first_line}{second_line}")?)
 }

@@ -1,4 +1,4 @@
-// A case: which layers stand over what is given, and how the body that they give is read.
+// A case: what is given, and how the bodies are read that stand in it one behind the other, each through layers of its own.
 use packet::BodyKind;
 use std::num::ParseIntError;
 use std::str::{FromStr, SplitN};
@@ -19,7 +19,7 @@ pub enum CaseError {
     BadNumber(#[from] ParseIntError),
 }
 
-// What is recorded of a case.
+// What is recorded of a body.
 #[derive(Clone, Copy)]
 pub enum Wanted<'a> {
     // the listing, and that it is the same in whatever pieces the bytes come
@@ -28,18 +28,19 @@ pub enum Wanted<'a> {
     Once,
     // how many lines the listing has, and the last of them
     Tail,
-    // the answers to some calls: `s` a Step, `p` a Pass; `S` and `P` with a work buffer that is too short; `w` shows the front of
-    // the work buffer
+    // the answers to some calls and what they leave beneath, and that it is the same in whatever pieces the bytes come: `s` a
+    // Step, `p` a Pass; `S` and `P` with a work buffer that is too short; `w` shows the front of the work buffer
     Calls(&'a str),
 }
 
-// A name, or else the calls. Not by `parse`, which could not keep the text of the calls.
+// A name, or else the calls; `-` for none. Not by `parse`, which could not keep the text of the calls.
 impl<'a> From<&'a str> for Wanted<'a> {
     fn from(name: &'a str) -> Wanted<'a> {
         match name {
             "every" => Wanted::Every,
             "once" => Wanted::Once,
             "tail" => Wanted::Tail,
+            "-" => Wanted::Calls(""),
             calls => Wanted::Calls(calls),
         }
     }
@@ -133,13 +134,20 @@ impl From<Disconnect> for u8 {
     }
 }
 
+// How a body is read.
 #[derive(Clone, Copy)]
-pub struct Case<'a> {
+pub struct Reading<'a> {
     pub wanted: Wanted<'a>,
     pub body: BodyKind,
     pub before: Option<u8>,
     pub stack: Stack,
     pub above: Above,
+}
+
+// The first body, and what is given.
+#[derive(Clone, Copy)]
+pub struct Case<'a> {
+    pub first: Reading<'a>,
     pub ending: Disconnect,
     // the bytes, in words
     pub words: &'a str,
@@ -168,23 +176,42 @@ fn before_named(name: &str) -> Result<Option<u8>, CaseError> {
 struct Columns<'a>(SplitN<'a, char>);
 
 impl<'a> Columns<'a> {
+    fn of(text: &'a str) -> Columns<'a> {
+        Columns(text.splitn(8, ' '))
+    }
+
     fn take(&mut self) -> &'a str {
         self.0.next().unwrap_or("")
     }
+
+    // How a body is read: `WANTED BODY BEFORE STACK LENGTH ABOVE`.
+    fn take_reading(&mut self) -> Result<Reading<'a>, CaseError> {
+        Ok(Reading {
+            wanted: Wanted::from(self.take()),
+            body: body_named(self.take())?,
+            before: before_named(self.take())?,
+            stack: Stack::try_from((self.take(), self.take()))?,
+            above: self.take().parse::<Above>()?,
+        })
+    }
 }
 
-// A case written as `WANTED BODY BEFORE STACK LENGTH ABOVE ENDING WORDS..`.
+impl<'a> TryFrom<&'a str> for Reading<'a> {
+    type Error = CaseError;
+
+    fn try_from(text: &'a str) -> Result<Reading<'a>, CaseError> {
+        Columns::of(text).take_reading()
+    }
+}
+
+// A case written as `READING ENDING WORDS..`.
 impl<'a> TryFrom<&'a str> for Case<'a> {
     type Error = CaseError;
 
     fn try_from(text: &'a str) -> Result<Case<'a>, CaseError> {
-        let mut columns = Columns(text.splitn(8, ' '));
+        let mut columns = Columns::of(text);
         Ok(Case {
-            wanted: Wanted::from(columns.take()),
-            body: body_named(columns.take())?,
-            before: before_named(columns.take())?,
-            stack: Stack::try_from((columns.take(), columns.take()))?,
-            above: columns.take().parse::<Above>()?,
+            first: columns.take_reading()?,
             ending: columns.take().parse::<Disconnect>()?,
             words: columns.take(),
         })

@@ -1,7 +1,8 @@
 // trials: reads a table of cases from standard input, and prints each with what comes of it.
 //
 // A line is a title, which begins with `#`; `capture WORDS..`, an input that may be a capture; `load NUMBERS..`, bytes loaded into a
-// leftover layer; `tickets NUMBER NUMBER`, two bodies closed crosswise; or a case (cases.rt). The words are explained in words.rt.
+// leftover layer; `tickets NUMBER NUMBER`, two bodies closed crosswise; or a case (cases.rt), with ` | READING` for each body that
+// is read behind its first. The words are explained in words.rt.
 #![tactic(auto)]
 
 mod calling;
@@ -9,6 +10,7 @@ mod cases;
 mod refusals;
 mod running;
 mod stacks;
+mod told;
 mod words;
 
 use calling::tickets_record;

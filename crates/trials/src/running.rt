@@ -1,9 +1,10 @@
 // The record of a case: what comes of it from an image, and from captures cut into pieces.
-use super::cases::{Case, Disconnect, Wanted};
+use super::cases::{Case, Disconnect, Reading, Wanted};
+use super::told::Told;
 use super::words::{Given, push_number};
 use anyhow::anyhow;
 use capture::Capture;
-use carrier::Image;
+use carrier::{Carrier, Image};
 use std::alloc::{AllocError, Global};
 
 // In which pieces a capture has its bytes.
@@ -56,29 +57,65 @@ fn tail_of(heap: Global, text: &str) -> Result<String, AllocError> {
 #[derive(Drop)]
 pub struct Trial<'a> {
     pub heap: Global,
-    pub case: Case<'a>,
+    case: Case<'a>,
+    // the bodies that are read behind the first
+    behind: Vec<Reading<'a>>,
     pub given: Given,
 }
 
 impl<'a> Trial<'a> {
-    // The trial that a line of the table writes.
+    // The trial that a line of the table writes: a case, and behind it ` | READING` for each body that is read behind the first.
     fn new(heap: Global, text: &'a str) -> anyhow::Result<Trial<'a>> {
-        let case = Case::try_from(text)?;
+        let mut texts = text.split(" | ");
+        let case = Case::try_from(texts.next().unwrap_or(""))?;
+        let behind = texts
+            .map(|text| -> anyhow::Result<Reading> { Ok(Reading::try_from(text)?) })
+            .try_collect(heap)?;
         let given = Given::from_words(heap, case.words)?;
-        Ok(Trial { heap, case, given })
+        Ok(Trial {
+            heap,
+            case,
+            behind,
+            given,
+        })
+    }
+
+    // Reads a body from what is left behind others, and adds its text to theirs.
+    fn read_on<C: Carrier + Drop>(
+        &self,
+        told: Told<C>,
+        reading: &Reading<'_>,
+    ) -> anyhow::Result<Told<C>> {
+        let Told { mut text, left } = told;
+        let lowest = left.ok_or_else(|| anyhow!("nothing is left behind a listing"))?;
+        let more = self.read_stack(reading, lowest)?;
+        text.push_str(&more.text)?;
+        Ok(Told {
+            text,
+            left: more.left,
+        })
+    }
+
+    // Reads the bodies one behind the other, and shows what the lowest carrier still gives.
+    fn read_bodies<C: Carrier + Drop>(&self, lowest: C) -> anyhow::Result<String> {
+        let first = self.read_stack(&self.case.first, lowest)?;
+        self.behind
+            .iter()
+            .try_fold(first, |told, reading| self.read_on(told, reading))?
+            .with_rest(self.heap)
     }
 
     // What comes of the case from a capture.
     fn read_capture(&self, cut: Cut) -> anyhow::Result<String> {
         let record = recorded(self.heap, &self.given.bytes, cut, self.case.ending)?;
         let capture = Capture::try_from(record.as_slice()).map_err(|_| anyhow!("no capture"))?;
-        self.read_stack(capture)
+        self.read_bodies(capture)
     }
 
     // What comes of the case from one piece: an image where the ending is clean.
     fn read_one_piece(&self) -> anyhow::Result<String> {
         match self.case.ending {
-            Disconnect::Clean => self.read_stack(Image::new(&self.given.bytes)),
+            Disconnect::Clean => self.read_bodies(Image::new(&self.given.bytes)),
             Disconnect::Broken => self.read_capture(Cut::Whole),
         }
     }
@@ -110,10 +147,10 @@ impl<'a> Trial<'a> {
     // What is recorded of the case.
     fn record(&self) -> anyhow::Result<String> {
         let text = self.read_one_piece()?;
-        match self.case.wanted {
-            Wanted::Every => self.with_cuts(&text),
+        match self.case.first.wanted {
+            Wanted::Every | Wanted::Calls(_) => self.with_cuts(&text),
             Wanted::Tail => Ok(tail_of(self.heap, &text)?),
-            Wanted::Once | Wanted::Calls(_) => Ok(text),
+            Wanted::Once => Ok(text),
         }
     }
 }

@@ -7,7 +7,7 @@
 // - `x.HEX`: bytes in hexadecimal; `t.TEXT`: those of a text; `r`: CR LF; `fill.N.BYTE`: a byte so many times;
 // - `chunked.SIZE`: what stands before it, as a chunked body with chunks of that size;
 // - `cut.N`: the first so many of what stands before it;
-// - `loaded`: what stands before it is loaded into the leftover layer.
+// - `loaded`: what stands before it is loaded into the leftover layer of each body.
 use std::alloc::{AllocError, Global};
 use std::io::Write;
 use std::iter::repeat_n;
