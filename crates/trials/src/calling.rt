@@ -12,7 +12,7 @@ use std::alloc::{AllocError, Global};
 const SHOWN: usize = 6;
 
 // The line for what a call gave, or for the number of its refusal.
-pub fn outcome_line<T, E: Into<u8>, F: FnOnce(T) -> Result<String, AllocError>>(
+pub(super) fn outcome_line<T, E: Into<u8>, F: FnOnce(T) -> Result<String, AllocError>>(
     heap: Global,
     outcome: Result<T, E>,
     line_of: F,
