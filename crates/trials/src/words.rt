@@ -103,12 +103,14 @@ fn low_byte(number: u32) -> u8 {
 
 // The lowest N bytes of a number, the low one first.
 pub fn push_number<const N: usize>(bytes: &mut Vec<u8>, number: u32) -> Result<(), AllocError> {
-    bytes.extend(number.to_le_bytes().iter().take(N).copied())
+    let low = number.to_le_bytes();
+    // as a slice, which is copied at once
+    bytes.extend_from_slice(&low[..N.min(low.len())])
 }
 
 // Bytes that count up from behind a number, so that payloads can be told apart.
 fn push_payload(bytes: &mut Vec<u8>, number: u32, count: u32) -> Result<(), AllocError> {
-    bytes.extend((1..=count).map(|i| low_byte(number.wrapping_add(i))))
+    bytes.extend((0..count).map(|i| low_byte(number.wrapping_add(i).wrapping_add(1))))
 }
 
 // The mark, the kind letter and PacketLength.
@@ -161,10 +163,11 @@ fn push_hex(bytes: &mut Vec<u8>, digits: &str) -> anyhow::Result<()> {
 }
 
 // The bytes as a chunked body.
-fn chunked(heap: Global, body: &[u8], size: usize) -> anyhow::Result<Vec<u8>> {
+fn chunked(heap: Global, body: &[u8], size: usize) -> Result<Vec<u8>, AllocError> {
     let mut wrapped = Vec::new(heap);
     for data in body.chunks(size.max(1)) {
-        write!(wrapped, "{:x}\r\n", data.len())?;
+        // a vector fails to take a line only where memory runs out, which is told here as everywhere
+        write!(wrapped, "{:x}\r\n", data.len()).map_err(|_| AllocError)?;
         wrapped.extend_from_slice(data)?;
         wrapped.extend_from_slice(b"\r\n")?;
     }
