@@ -36,16 +36,17 @@ impl Carrier for Capture<'_> {
         ensures one_piece { result ≡ answer (pieces self.old) self.old.ending (length out.old) }
         ensures left { pieces self.new ≡ less (given result) (pieces self.old) }
     {
-        let room = out.len();
-        if room == 0 {
+        if out.is_empty() {
             return Ok(0);
         }
         self.begin();
         if self.left == 0 {
             return Err(self.ending);
         }
-        let most = room.min(self.left as usize);
-        let n = hand_out(&mut self.bytes, &mut out[..most]);
+        // of this piece alone; that it holds a byte is what lets the compiler move a single byte without a call
+        let mut piece = &self.bytes[..self.left as usize];
+        let n = hand_out(&mut piece, out);
+        self.bytes = &self.bytes[n..];
         self.left -= n as u32;
         Ok(n)
     }

@@ -1,5 +1,5 @@
-use Rattle.std.proofs.Common.{append-nil, length-drop, ◌≡◌, ℕ, ◌-◌, ◌<◌, true, List, [], ◌∷◌, ◌++◌, length, take, drop, Err, sym, refl, ap, ◌∙◌, arith}
-use Rattle.std.proofs.lemmas.List.{nil_from_length, drop_all, length-take-le}
+use Rattle.std.proofs.Common.{length-drop, ◌≡◌, ℕ, ◌-◌, ◌<◌, true, List, [], ◌∷◌, ◌++◌, length, take, drop, Err, sym, refl, ap, ◌∙◌, arith}
+use Rattle.std.proofs.lemmas.List.{nil_from_length, length-take-le, take-take, take_all}
 use Rattle.carrier.specs.declared.endings.Ending.{Ending}
 use Rattle.capture.specs.declared.Capture.{Capture}
 use Rattle.capture.specs.Pieces.{numbers}
@@ -33,10 +33,11 @@ returns-then-self-eq0 c =
     let p : pieces t ≡ [] = c.begin.ensures.begun c.if-self-eq0.true in
     let q = none s t c.begin.ensures.same p in
     let e = ending s t c.begin.ensures.same in
+    let room : 0 < length c.args.out.now = grind arith in
     record {
-      answers = (omega arith, no_bytes s q, sym e, no_bytes t p, e, refl);
+      answers = (room, no_bytes s q, sym e, no_bytes t p, e, refl);
       lacks = ((omega arith, bytes s t c.begin.ensures.same, λ h. no_bytes t p), e);
-      one_piece = ap Err e ∙ sym (answer_told (pieces s) s.ending (length c.args.out.now) q (omega arith));
+      one_piece = ap Err e ∙ sym (answer_told (pieces s) s.ending (length c.args.out.now) q room);
       left = p ∙ sym (ap (less 0) q);
     }
 
@@ -44,13 +45,12 @@ pub invariant_of-self : goal.invariant_of-self
 invariant_of-self c =
     let t = c.begin.new.self in
     let n = c.hand_out-n.result in
-    let handed = c.hand_out-n.ensures in
     let fits = made_up_parts t.left (numbers t.lengths.now) (length t.bytes.now) t.made_up in
-    let most = length-take-le c.min-most.result c.args.out.now (omega arith) in
-    let left = ap length handed.bytes ∙ length-drop n t.bytes.now in
+    let piece = length-take-le t.left t.bytes.now (omega arith) in
+    let count = c.hand_out-n.ensures.count in
     record {
       few = let few = few_to_come (t.left - n) t.left (numbers t.lengths.now) (omega arith) in omega (arith, t.few);
-      made_up = made_up_handed t.left n (numbers t.lengths.now) (length t.bytes.now) _ (omega arith) (omega (arith, left, most)) t.made_up;
+      made_up = made_up_handed t.left n (numbers t.lengths.now) (length t.bytes.now) _ (omega (arith, piece, count)) (omega (arith, piece, count, length-drop n t.bytes.now)) t.made_up;
     }
 
 pub returns : goal.returns
@@ -65,21 +65,20 @@ returns c =
     let q = first s t c.begin.ensures.same (omega arith) in
     let len = ap length b in
     let fits = made_up_parts t.left (numbers t.lengths.now) (length t.bytes.now) t.made_up in
-    let most = length-take-le c.min-most.result w (omega arith) in
-    let all : n ≡ c.min-most.result = omega (arith, most) in
-    let nothing : drop n (take c.min-most.result w) ≡ [] = drop_all n _ (omega (arith, most)) in
-    let rest = handed.bytes ∙ ap (drop n) b in
+    let piece = length-take-le t.left t.bytes.now (omega arith) in
+    let count = handed.count in
+    let room : 0 < length w = grind arith in
+    let rest = take_all (length t.bytes.now - n) (drop n t.bytes.now) (omega (arith, length-drop n t.bytes.now)) ∙ ap (drop n) b in
     record {
       answers = (
-        omega arith,
-        omega (arith, most),
-        λ h. omega (arith, most),
+        omega (arith, piece, count),
+        omega (arith, piece, count),
+        λ h. omega (arith, piece, count),
         rest,
         e,
-        ap (λ bs. bs ++ drop c.min-most.result w) (handed.out ∙ ap (λ bs. take n t.bytes.now ++ bs) nothing ∙ append-nil (take n t.bytes.now) ∙ ap (take n) b)
-            ∙ ap (λ k. take n s.bytes.now ++ drop k w) (sym all),
+        handed.out ∙ ap (λ bs. bs ++ drop n w) (take-take n t.left t.bytes.now (omega (arith, piece, count)) ∙ ap (take n) b),
       );
-      lacks = ((omega arith, rest, λ h. cc), e);
-      one_piece = rw q (sym (answer_taken t.left (numbers t.lengths.now) s.ending (length w) n (omega arith) (omega (arith, most))));
+      lacks = ((omega (arith, piece, count), rest, λ h. cc), e);
+      one_piece = rw q (sym (answer_taken t.left (numbers t.lengths.now) s.ending (length w) n room (omega (arith, piece, count))));
       left = rw q refl;
     }
