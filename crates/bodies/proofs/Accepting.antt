@@ -16,7 +16,7 @@ use Rattle.bodies.proofs.Leading.{Ends, body_ends}
 use Rattle.bodies.proofs.Judging.{Gives, gives, allowed, counted}
 
 -- the headers of packets one behind the other add up
-headers_append : (ps qs : List Packet) → headers (ps ++ qs) ≡ headers ps + headers qs
+pub headers_append : (ps qs : List Packet) → headers (ps ++ qs) ≡ headers ps + headers qs
 headers_append ps qs = simp (is_sum_by headers counted refl (λ _ _. refl), sum_by-append)
 
 -- so do their bytes

@@ -27,6 +27,11 @@ abbrev pub Goes : Position → List Packet → Position → Type 0
 Goes here [] end = end ≡ here
 Goes here (p ∷ ps) end = (next : Position) × Leads p here next × Goes next ps end
 
+-- two ways, one behind the other
+pub goes_append : (here mid end : Position) (ps qs : List Packet) → Goes here ps mid → Goes mid qs end → Goes here (ps ++ qs) end
+goes_append here mid end [] qs same more = rw same at more
+goes_append here mid end (p ∷ ps) qs (next, leads, first) more = (next, leads, goes_append next mid end ps qs first more)
+
 -- a $H of an Incarnation opens its header at a position, by its marks, and goes on with it
 abbrev Opens : Position → ℕ → Position → Position → Type 0
 Opens here i run done = (p : Packet) → Is kind.Header p → p.fields.incarnation ≡ i → judged p here 0 ≡ begun p.fields i run done 0
@@ -89,10 +94,7 @@ Ends here ps = (end : Position) × Goes here ps end × (ends end ≡ true)
 
 -- a way to a position, and from there to an end
 goes_on_to_end : (here mid : Position) (ps qs : List Packet) → Goes here ps mid → Ends mid qs → Ends here (ps ++ qs)
-goes_on_to_end here mid [] qs same ends = rw same at ends
-goes_on_to_end here mid (p ∷ ps) qs (next, leads, more) ends =
-    let (end, goes, done) = goes_on_to_end next mid ps qs more ends in
-    (end, (next, leads, goes), done)
+goes_on_to_end here mid ps qs goes (end, more, done) = (end, goes_append here mid end ps qs goes more, done)
 
 -- a body may end behind any $E
 over_ends : (r : ℕ) → ends (over r) ≡ true

@@ -18,6 +18,7 @@ use Rattle.calls.proofs.Course.{charted, course_bytes, course_ends, course_answe
 use Rattle.calls.proofs.Moving.{State, spent, has_told}
 use Rattle.calls.proofs.Passes.{tells_on}
 use Rattle.calls.proofs.Replying.{Keeps, step_keeps, pass_keeps}
+use Rattle.calls.proofs.Serving.{short_refused}
 
 module _ (now : Option ℕ) (e : Ending) (body rest : List ℕ) (last : Answer) (ends : IsLast last) where
   -- the calls are replied to in their order
@@ -72,5 +73,6 @@ calls_keep_the_law b before bs e w cs =
       read = all.read;
       ended = all.ended;
       each_packet_once_in_order = all.order;
+      refused_by_length = short_refused _ _ _ _ _ refl all.order;
       nothing_more_was_used = (sym (add-zero _) ∙ all.uses, all.tells);
     }

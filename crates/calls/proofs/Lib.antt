@@ -5,4 +5,5 @@ pub mod Course
 pub mod Moving
 pub mod Passes
 pub mod Replying
+pub mod Serving
 pub mod Keeping

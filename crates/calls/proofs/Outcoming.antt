@@ -25,6 +25,7 @@ law_of Q f law =
       read = law.read;
       ended = law.ended;
       each_packet_once_in_order = law.each_packet_once_in_order;
+      refused_by_length = law.refused_by_length;
       nothing_more_was_used = f _ _ law.nothing_more_was_used;
     }
 

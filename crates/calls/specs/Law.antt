@@ -20,7 +20,7 @@ use Rattle.calls.specs.declared.making.NoMemory.{NoMemory}
 use Rattle.calls.specs.declared.making.Ran.{Ran}
 use Rattle.calls.specs.declared.making.Script.{Script}
 use Rattle.calls.specs.Calling.{calls_run}
-use Rattle.calls.specs.Order.{Cut, Told}
+use Rattle.calls.specs.Order.{Cut, Told, ShortRefused}
 
 -- how many bytes of the rest show a packet's fault: the head, or the packet whole
 abbrev packet_shown_by : PacketFault → List ℕ → ℕ
@@ -66,6 +66,7 @@ pub record Law (b : BodyKind) (before : Option ℕ) (bs : List ℕ) (e : Ending)
   pub read : List Packet
   pub ended : Bool
   pub each_packet_once_in_order : Told (from_before b before) last bs rest [] accepted false w cs rs read ended x
+  pub refused_by_length : ShortRefused (length w) cs rs
   pub nothing_more_was_used : lacks (bytes_of read + cond ended (shown last rest) 0) (ended && tells_ending last)
 
 -- What the calls come to keeps the law.

@@ -7,7 +7,7 @@
 -- done      the accepted packets that Steps told or Passes passed over so far
 -- todo      the accepted packets that are still to come
 -- over      whether the last answer was given
-use Rattle.std.specs.Prelude.{◌≡◌, ℕ, ◌+◌, ◌-◌, ◌<◌, ◌≤◌, Bool, true, false, cond, not, ◌&&◌, List, [], ◌∷◌, ◌++◌, map, length, take, drop, is_some, Some, None, Ok, Err, Option, ◌==◌}
+use Rattle.std.specs.Prelude.{◌≡◌, ℕ, ◌+◌, ◌-◌, ◌<◌, ◌≤◌, min, nat_lt, Bool, true, false, cond, not, ◌&&◌, List, [], ◌∷◌, ◌++◌, map, length, take, drop, is_some, Some, None, Ok, Err, Option, ◌==◌}
 use Rattle.carrier.specs.declared.endings.Ending.{Ending}
 use Rattle.packet.specs.declared.wire.Kind.TheVariants as kind
 use Rattle.packet.specs.declared.wire.Packet.{Packet}
@@ -135,3 +135,22 @@ pub data Told (now : Option ℕ) (last : Answer) (body rest : List ℕ) : (done 
       → AllData todo
       → Told now last body rest (done ++ todo) [] true (lent n (λ v. laid_over (came over rest) (laid_behind body done todo v)) w) cs rs read ended x
       → Told now last body rest done todo over w (call.Pass n ∷ cs) (reply.Pass (Ok (record { answer = last; delivered = stopped (having (in_force now done) todo); stale = stopped (lacking (in_force now done) todo) })) ∷ rs) read ended x
+
+-- whether a reply refuses its call for a short buffer
+abbrev pub refuses_short : Reply → Bool
+refuses_short (reply.Step (Ok a)) = false
+refuses_short (reply.Step (Err step_refusal.ShortWorkBuffer)) = true
+refuses_short (reply.Pass (Ok p)) = false
+refuses_short (reply.Pass (Err pass_refusal.ShortWorkBuffer)) = true
+refuses_short (reply.Pass (Err pass_refusal.NoHeaderInForce)) = false
+
+-- how many bytes of the work buffer a call asks for
+abbrev pub asks : Call → ℕ
+asks (call.Step n) = n
+asks (call.Pass n) = n
+
+-- Of the calls, over a work buffer of size bytes, just those are refused for it that are lent too few of them.
+abbrev pub ShortRefused : ℕ → List Call → List Reply → Type 0
+ShortRefused size [] rs = rs ≡ []
+ShortRefused size (c ∷ cs) [] = ⊥
+ShortRefused size (c ∷ cs) (r ∷ rs) = (refuses_short r ≡ nat_lt (min (asks c) size) work_length) × ShortRefused size cs rs

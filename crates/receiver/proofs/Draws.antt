@@ -29,7 +29,7 @@ pub fixed_small : (k : Kind) → fixed k ≤ 8
 fixed_small k = grind arith
 
 -- the fields are read from the fixed bytes alone
-fields_front : (k : Kind) (bs zs : List ℕ) → fixed k ≤ length bs → fields_of k (take (fixed k) bs ++ zs) ≡ fields_of k bs
+pub fields_front : (k : Kind) (bs zs : List ℕ) → fixed k ≤ length bs → fields_of k (take (fixed k) bs ++ zs) ≡ fields_of k bs
 fields_front k bs zs h = grind (arith, common_steps)
 
 -- both fills were full, the first of n bytes for the fixed fields, the second of size bytes: a packet is drawn

@@ -12,7 +12,7 @@ use Rattle.receiver.specs.Passes.{passing, passes, by_count, stopping, PassRun}
 use Rattle.receiver.specs.Views.{View}
 
 -- a buffer does not get shorter, and keeps its length only where all fits
-laid_grows : (f w : List ℕ) → length w ≤ length (laid_over f w)
+pub laid_grows : (f w : List ℕ) → length w ≤ length (laid_over f w)
 laid_grows f w = omega (arith, length-append {A = ℕ}, length-drop {A = ℕ})
 
 laid_fits : (f w : List ℕ) → length (laid_over f w) ≤ length w → length f ≤ length w

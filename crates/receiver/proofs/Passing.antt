@@ -22,7 +22,7 @@ event_counts : (a : Answer) → counts a ≢ None → (ev : Event) × (a ≡ ans
 event_counts a so = grind arith
 
 -- and uses at least four bytes
-data_uses : (s : Standing) (bs : List ℕ) (e : Ending) → counts (steps s bs e).answer ≢ None → length (drop (used bs) bs) < length bs
+pub data_uses : (s : Standing) (bs : List ℕ) (e : Ending) → counts (steps s bs e).answer ≢ None → length (drop (used bs) bs) < length bs
 data_uses s bs e so =
     let (ev, is) = event_counts _ so in
     let u = event_uses s bs e ev is in
